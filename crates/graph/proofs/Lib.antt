@@ -1,0 +1,6 @@
+pub mod Raise
+pub mod Shown
+pub mod Placed
+pub mod Rounding
+pub mod Settling
+pub mod Split

@@ -1,0 +1,5 @@
+use Rattle.graph.proofs.Raise.{times-laws}
+use Rattle.graph.proofs.laws.times_laws_hold.Needs as need
+
+pub returns : need.returns
+returns c = times-laws
