@@ -1,0 +1,13 @@
+//! The format of messages, as definitions with their laws, and the faults by which a case or a message is refused.
+
+mod faults;
+mod laws;
+
+pub use faults::CaseFault;
+pub use faults::CaseFaultDebug;
+pub use faults::CaseFaultPartialEq;
+pub use faults::MessageFault;
+pub use faults::MessageFaultDebug;
+pub use faults::MessageFaultFromCase;
+pub use faults::MessageFaultPartialEq;
+pub use laws::message_laws_hold;

@@ -1,0 +1,4 @@
+pub mod Arcs
+pub mod Layouts
+pub mod Listing
+pub mod Writing

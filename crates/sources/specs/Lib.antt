@@ -1,0 +1,4 @@
+pub mod Laid
+pub mod Lists
+pub mod Means
+pub mod Written

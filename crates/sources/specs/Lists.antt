@@ -1,0 +1,15 @@
+-- The case that is listed. Assumes nothing.
+use mathlib.Core.List.{List, map}
+use Prim.Native.Nat.{ℕ}
+use Rattle.graph.specs.Graph.{Case}
+use Rattle.messages.specs.Message.{listedFault, unlessFaulty}
+use Rattle.graph.specs.Views.{arcOf, pairOf}
+use Rattle.graph.specs.declared.arc.Arc.{Arc as ArcRecord}
+use Rattle.graph.specs.declared.arc.Pair.{Pair as PairRecord}
+
+abbrev pub listed : ℕ → List ArcRecord → List PairRecord → Case
+listed n fs ps = record { end = n; fixed = map arcOf fs; pairs = map pairOf ps }
+
+-- the empty case where the check refuses it
+abbrev pub listedCase : ℕ → List ArcRecord → List PairRecord → Case
+listedCase n fs ps = unlessFaulty (listed n fs ps) (listedFault (listed n fs ps))
