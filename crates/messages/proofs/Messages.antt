@@ -19,7 +19,7 @@ use Rattle.std.specs.declared.option.Option.{Option}
 use Rattle.std.specs.declared.option.Option.the-variants.{Some, None}
 use Rattle.graph.specs.Faults.{Fault}
 use Rattle.graph.specs.Graph.{Arc, Pair, Case, Within, ArcWithin}
-use Rattle.messages.specs.Message.{fixedFault, pairsFault, arcsFault, listedFault, u16-at, u32-at, arc-at, arcs-at, pairs-at, contents, messageFault, unlessFaulty, messageCase, u16-bytes, u32-bytes, arc-bytes, arcs-bytes, pairs-bytes, message, Message-laws}
+use Rattle.messages.specs.Message.{fixedFault, pairsFault, arcsFault, listedFault, u16-at, u32-at, arc-at, arcs-at, pairs-at, contents, messageFault, unlessFaulty, messageCase, u16-bytes, u32-bytes, arc-bytes, arcs-bytes, pairs-bytes, message, ReadsBack, Message-laws}
 use Rattle.messages.proofs.Checks.{orElse-none, none-orElse, cond-none, none-cond, fixed-within, within-fixed, pairs-within, within-pairs, empty-within}
 
 pub within-unless : (c : Case) (f : Option Fault) → (f ≡ None → Within c) → Within (unlessFaulty c f)
@@ -407,5 +407,15 @@ message-small c w =
     (pairs-small (c .end) (c .pairs) (w .few-events) (w .first-within) (w .second-within)) in
     (x .0, (x .1 .0, (y .0, (y .1 .0, (omega arith, (n .0, (n .1 .0, (f .0, (f .1 .0, (omega (arith, w .few-pairs), rest))))))))))
 
+pub reads-back-law : (c : Case) → Within c → ReadsBack c
+reads-back-law c w = record { accepted = accepted c w; same = reads-back c w }
+
 pub message-laws : Message-laws
-message-laws = record { listed-within = listed-within; listed-taken = within-listed; bytes = message-small; accepted-within = accepted-within; accepted = accepted; reads-back = reads-back; writes-back = writes-back }
+message-laws = record {
+  listed-within = listed-within;
+  listed-taken = within-listed;
+  accepted-within = accepted-within;
+  bytes = message-small;
+  reads-back = reads-back-law;
+  writes-back = writes-back;
+}

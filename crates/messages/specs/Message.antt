@@ -22,10 +22,12 @@ arcFault n k a =
     (cond (eqb (a .from) (a .to)) (fault 2 6 k)
     (cond (ltZ (a .weight) (negsuc 999999) || ltZ (pos 1000000) (a .weight)) (fault 2 7 k) (cond (ltb 1 (a .mark)) (fault 2 8 k) None)))
 
+-- the first fault of fixed arcs, whose numbers run on from k
 abbrev pub fixedFault : ℕ → ℕ → List Arc → Option Fault
 fixedFault n k [] = None
 fixedFault n k (a ∷ xs) = orElse (arcFault n k a) (fixedFault n (k + 1) xs)
 
+-- the first fault of the arms of pairs, whose numbers run on from k
 abbrev pub pairsFault : ℕ → ℕ → List Pair → Option Fault
 pairsFault n k [] = None
 pairsFault n k (p ∷ ps) = orElse (arcFault n k (p .first)) (orElse (arcFault n (k + 1) (p .second)) (pairsFault n (k + 2) ps))
@@ -40,28 +42,34 @@ listedFault c =
     cond (eqb (c .end) 0 || ltb 511 (c .end)) (fault 2 3 0)
     (cond (ltb 2048 (length (c .fixed))) (fault 2 3 1) (cond (ltb 60 (length (c .pairs))) (fault 2 3 2) (arcsFault c)))
 
+-- the number in two bytes from index i on
 abbrev pub u16-at : List ℕ → ℕ → ℕ
 u16-at bs i = 256 * getD bs i 0 + getD bs (i + 1) 0
 
+-- the number in four bytes from index i on
 abbrev pub u32-at : List ℕ → ℕ → ℕ
 u32-at bs i = 65536 * u16-at bs i + u16-at bs (i + 2)
 
+-- an arc in nine bytes: from, to, weight in two's complement, mark
 abbrev pub arc-at : List ℕ → ℕ → Arc
 arc-at bs i = record { from = u16-at bs i; to = u16-at bs (i + 2); weight = toZ w32 (u32-at bs (i + 4)); mark = getD bs (i + 8) 0 }
 
+-- so many arcs, one after the other
 abbrev pub arcs-at : List ℕ → ℕ → ℕ → List Arc
 arcs-at bs i zero = []
 arcs-at bs i (suc k) = arc-at bs i ∷ arcs-at bs (i + 9) k
 
+-- so many pairs of two arms, one after the other
 abbrev pub pairs-at : List ℕ → ℕ → ℕ → List Pair
 pairs-at bs i zero = []
 pairs-at bs i (suc k) = record { first = arc-at bs i; second = arc-at bs (i + 9) } ∷ pairs-at bs (i + 18) k
 
--- length of what follows, version, last event, fixed arcs, pairs, then the arcs and the arms
+-- what a message lists: length of what follows, version, last event, fixed arcs, pairs, then the arcs and the arms
 abbrev pub contents : List ℕ → Case
 contents bs =
     let f = u16-at bs 7 in record { end = u16-at bs 5; fixed = arcs-at bs 10 f; pairs = pairs-at bs (10 + 9 * f) (getD bs 9 0) }
 
+-- the check of a message: its length, version, counts and the lengths that these ask for, then each arc
 abbrev pub messageFault : List ℕ → Option Fault
 messageFault bs =
     let n = u16-at bs 5 in
@@ -74,41 +82,55 @@ messageFault bs =
     (cond (ltb 60 p) (fault 1 3 9)
     (cond (not (eqb (u32-at bs 0) (6 + 9 * f + 18 * p) && eqb (length bs) (10 + 9 * f + 18 * p))) (fault 1 4 0) (arcsFault (contents bs)))))))
 
+-- the empty case in the place of one that is refused
 abbrev pub unlessFaulty : Case → Option Fault → Case
 unlessFaulty c None = c
 unlessFaulty c (Some f) = emptyCase
 
+-- the case that a message means
 abbrev pub messageCase : List ℕ → Case
 messageCase bs = unlessFaulty (contents bs) (messageFault bs)
 
+-- a number in two bytes
 abbrev pub u16-bytes : ℕ → List ℕ
 u16-bytes n = n / 256 ∷ n % 256 ∷ []
 
+-- a number in four bytes
 abbrev pub u32-bytes : ℕ → List ℕ
 u32-bytes n = u16-bytes (n / 65536) ++ u16-bytes (n % 65536)
 
+-- an arc in nine bytes
 abbrev pub arc-bytes : Arc → List ℕ
 arc-bytes a = u16-bytes (a .from) ++ (u16-bytes (a .to) ++ (u32-bytes (ofZ w32 (a .weight)) ++ (a .mark ∷ [])))
 
+-- arcs, one after the other
 abbrev pub arcs-bytes : List Arc → List ℕ
 arcs-bytes [] = []
 arcs-bytes (a ∷ xs) = arc-bytes a ++ arcs-bytes xs
 
+-- the two arms of each pair, one after the other
 abbrev pub pairs-bytes : List Pair → List ℕ
 pairs-bytes [] = []
 pairs-bytes (p ∷ ps) = arc-bytes (p .first) ++ (arc-bytes (p .second) ++ pairs-bytes ps)
 
+-- a case as a message
 abbrev pub message : Case → List ℕ
 message c =
     let f = length (c .fixed) in
     let p = length (c .pairs) in
     u32-bytes (6 + 9 * f + 18 * p) ++ ((1 ∷ []) ++ (u16-bytes (c .end) ++ (u16-bytes f ++ ((p ∷ []) ++ (arcs-bytes (c .fixed) ++ pairs-bytes (c .pairs))))))
 
+-- what is written for a case is accepted, and reads back the same
+pub record ReadsBack (c : Case) : Type 0 where
+  pub accepted : messageFault (message c) ≡ None
+  pub same : messageCase (message c) ≡ c
+
+-- the checks take exactly the cases within the limits, what a message means is always within them, what is written are bytes, a case that is written reads back the same,
+-- and an accepted message is written back byte for byte
 pub record Message-laws : Type 0 where
   pub listed-within : (c : Case) → listedFault c ≡ None → Within c
   pub listed-taken : (c : Case) → Within c → listedFault c ≡ None
-  pub bytes : (c : Case) → Within c → All (λ b. b < 256) (message c)
   pub accepted-within : (bs : List ℕ) → Within (messageCase bs)
-  pub accepted : (c : Case) → Within c → messageFault (message c) ≡ None
-  pub reads-back : (c : Case) → Within c → messageCase (message c) ≡ c
+  pub bytes : (c : Case) → Within c → All (λ b. b < 256) (message c)
+  pub reads-back : (c : Case) → Within c → ReadsBack c
   pub writes-back : (bs : List ℕ) → All (λ b. b < 256) bs → messageFault bs ≡ None → message (messageCase bs) ≡ bs

@@ -5,6 +5,7 @@ use Rattle.messages.specs.declared.faults.CaseFault.the-variants as case
 use Rattle.messages.specs.declared.faults.MessageFault.{MessageFault}
 use Rattle.messages.specs.declared.faults.MessageFault.the-variants as message
 
+-- the layer, cause and place of a case's fault: layer 2, the case
 abbrev pub ofCase : CaseFault → Fault
 ofCase case.Events = record { layer = 2; cause = 3; place = 0 }
 ofCase case.TooManyFixedArcs = record { layer = 2; cause = 3; place = 1 }
@@ -14,6 +15,7 @@ ofCase (case.SameEvent k) = record { layer = 2; cause = 6; place = k }
 ofCase (case.Weight k) = record { layer = 2; cause = 7; place = k }
 ofCase (case.Mark k) = record { layer = 2; cause = 8; place = k }
 
+-- the layer, cause and place of a message's fault: layer 1, the message, or those of the case's fault that it carries
 abbrev pub ofMessage : MessageFault → Fault
 ofMessage (message.Short n) = record { layer = 1; cause = 1; place = n }
 ofMessage message.Version = record { layer = 1; cause = 2; place = 4 }

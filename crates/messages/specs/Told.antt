@@ -9,15 +9,17 @@ use Rattle.messages.specs.declared.faults.CaseFault.{CaseFault}
 use Rattle.messages.specs.declared.faults.MessageFault.{MessageFault}
 use Rattle.messages.specs.Named.{ofCase, ofMessage}
 
--- the fault that a call is refused with, if it is
+-- the fault that a check of a case answers, if it does
 abbrev pub caseTold : {T : Type 0} → Result T CaseFault → Option Fault
 caseTold (Ok x) = None
 caseTold (Err f) = Some (ofCase f)
 
+-- the fault that a check of a message answers, if it does
 abbrev pub messageTold : {T : Type 0} → Result T MessageFault → Option Fault
 messageTold (Ok x) = None
 messageTold (Err f) = Some (ofMessage f)
 
+-- a fault that was found, if one was
 abbrev pub caseFound : Option CaseFault → Option Fault
 caseFound None = None
 caseFound (Some f) = Some (ofCase f)

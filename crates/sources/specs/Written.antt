@@ -13,7 +13,7 @@ use Rattle.messages.specs.Message.{u16-bytes, u32-bytes, arc-bytes, message}
 use Rattle.messages.specs.declared.faults.MessageFault.{MessageFault}
 use Rattle.messages.specs.Named.{ofMessage}
 
--- the list with ys written over it from place a on
+-- the list with ys written over it from index a on
 abbrev pub putAt : List ℕ → ℕ → List ℕ → List ℕ
 putAt xs a ys = take a xs ++ (ys ++ drop (a + length ys) xs)
 
@@ -21,6 +21,7 @@ putAt xs a ys = take a xs ++ (ys ++ drop (a + length ys) xs)
 abbrev pub headBytes : ℕ → ℕ → ℕ → List ℕ
 headBytes n f p = u32-bytes (6 + 9 * f + 18 * p) ++ ((1 ∷ []) ++ (u16-bytes n ++ (u16-bytes f ++ (p ∷ []))))
 
+-- the bytes of an arc, if there is one
 abbrev pub foundBytes : Option Arc → List ℕ
 foundBytes None = []
 foundBytes (Some a) = arc-bytes a
@@ -37,6 +38,7 @@ pub record Refused (c : Case) (before after : List ℕ) (f : MessageFault) : Typ
   pub named : ofMessage f ≡ record { layer = 1; cause = 16; place = length (message c) }
   pub same : after ≡ before
 
+-- what a call that writes a case as a message answers and leaves
 abbrev pub Written : Case → List ℕ → List ℕ → Result ℕ MessageFault → Type 0
 Written c before after (Ok n) = Taken c before after n
 Written c before after (Err f) = Refused c before after f

@@ -11,7 +11,7 @@ use graph::Arc;
 use messages::CaseFault;
 
 /// The arcs of a case that is not yet checked.
-pub trait Unchecked {
+pub(crate) trait Unchecked {
     ghost lists: { Self → Case };
 
     fn last_event(&self) -> usize
@@ -35,7 +35,7 @@ pub trait Unchecked {
 }
 
 /// Checks an arc against the limits of a case; `number` is the arc's place in a fault.
-pub fn check_arc(end: usize, number: usize, arc: Arc) -> Result<(), CaseFault>
+pub(crate) fn check_arc(end: usize, number: usize, arc: Arc) -> Result<(), CaseFault>
     ensures { λ r. ⌜ caseTold r ≡ arcFault end number (arcOf arc) ⌝ }
 {
     let Arc {
@@ -60,7 +60,7 @@ pub fn check_arc(end: usize, number: usize, arc: Arc) -> Result<(), CaseFault>
 }
 
 /// Checks every arc, the fixed ones first and then each pair's arms, up to the first that breaks a limit.
-pub fn check_arcs<U: Unchecked>(case: &U) -> Result<(), CaseFault>
+pub(crate) fn check_arcs<U: Unchecked>(case: &U) -> Result<(), CaseFault>
     requires fixed { ⌜ length (U·Unchecked .lists (now case) .fixed) ≤ 2048 ⌝ }
     requires pairs { ⌜ length (U·Unchecked .lists (now case) .pairs) ≤ 60 ⌝ }
     ensures { λ r. ⌜ caseTold r ≡ arcsFault (U·Unchecked .lists (now (case .entry))) ⌝ }
@@ -90,7 +90,7 @@ pub fn check_arcs<U: Unchecked>(case: &U) -> Result<(), CaseFault>
 }
 
 /// Checks a case: its sizes, then its arcs.
-pub fn check_case<U: Unchecked>(case: &U) -> Result<(), CaseFault>
+pub(crate) fn check_case<U: Unchecked>(case: &U) -> Result<(), CaseFault>
     ensures { λ r. ⌜ caseTold r ≡ listedFault (U·Unchecked .lists (now (case .entry))) ⌝ }
 {
     let end = case.last_event();

@@ -42,7 +42,7 @@ fn arc_at(bytes: &[u8], at: usize) -> Arc
 }
 
 /// Checks the head of a message.
-pub fn check_head(bytes: &[u8]) -> Result<(), MessageFault>
+pub(crate) fn check_head(bytes: &[u8]) -> Result<(), MessageFault>
     ensures { λ r. ⌜ Cases r (λ _. LaidOut (now (bytes .entry)) × (messageFault (now (bytes .entry)) ≡ arcsFault (contents (now (bytes .entry))))) (λ f. messageFault (now (bytes .entry)) ≡ Some (ofMessage f)) ⌝ }
 {
     if bytes.len() < 10 {
@@ -72,7 +72,7 @@ pub fn check_head(bytes: &[u8]) -> Result<(), MessageFault>
 
 /// The bytes of a message whose head is right.
 #[derive(Clone, Copy)]
-pub struct Layout<'a> {
+pub(crate) struct Layout<'a> {
     bytes: &'a [u8],
     ghost few_fixed: { u16-at (now bytes) 7 ≤ 2048 },
     ghost few_pairs: { getD (now bytes) 9 0 ≤ 60 },
@@ -80,7 +80,7 @@ pub struct Layout<'a> {
 }
 
 impl<'a> Layout<'a> {
-    pub fn of(bytes: &'a [u8]) -> Layout<'a>
+    pub(crate) fn of(bytes: &'a [u8]) -> Layout<'a>
         requires { ⌜ LaidOut (now bytes) ⌝ }
         ensures { λ r. ⌜ now (r .bytes) ≡ now (bytes .entry) ⌝ }
     {
@@ -88,7 +88,7 @@ impl<'a> Layout<'a> {
     }
 }
 
-pub impl<'a> Unchecked for Layout<'a> as LayoutLists {
+pub(crate) impl<'a> Unchecked for Layout<'a> as LayoutLists {
     ghost lists = { λ s. contents (now (s .bytes)) };
 
     fn last_event(&self) -> usize {

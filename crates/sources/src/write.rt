@@ -1,7 +1,7 @@
 ghost use mathlib.Core.Path.{_≡_};
 ghost use Prim.Native.Nat.{_+_, _*_, _≤_};
 ghost use lib.ListN.{length};
-ghost use Rattle.messages.specs.Message.{arc-bytes, arcs-bytes, pairs-bytes};
+ghost use Rattle.messages.specs.Message.{arc-bytes, arcs-bytes, pairs-bytes, ReadsBack};
 ghost use Rattle.graph.specs.Views.{arcOf, arcFound};
 ghost use Rattle.sources.specs.Written.{putAt, headBytes, foundBytes, Written};
 use graph::Arc;
@@ -70,9 +70,11 @@ fn put_pairs<S: CaseSource>(source: &S, out: &mut [u8], from: usize)
     }
 }
 
-/// Writes the case as a message into the front of `out`, and answers the message's length.
+/// Writes the case as a message into the front of `out`, and answers the message's length; the rest stays. Memory that is
+/// too short is refused, and nothing is written.
 pub fn write_message<S: CaseSource>(source: &S, out: &mut [u8]) -> Result<usize, MessageFault>
-    ensures { λ r. ⌜ Written (S·CaseSource .means (now (source .entry)) .case) (now (out .entry)) (now (out .exit)) r ⌝ }
+    ensures written { λ r. ⌜ Written (S·CaseSource .means (now (source .entry)) .case) (now (out .entry)) (now (out .exit)) r ⌝ }
+    ensures law { λ _. ⌜ ReadsBack (S·CaseSource .means (now (source .entry)) .case) ⌝ }
 {
     let fixed = source.fixed_count();
     let pairs = source.pair_count();
