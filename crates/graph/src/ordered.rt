@@ -1,8 +1,11 @@
 ghost use mathlib.Core.Path.{_≡_};
-ghost use Prim.Native.Nat.{ℕ};
-ghost use lib.IntN.{ℤ, pos, _+ℤ_, _*ℤ_};
-ghost use Rattle.graph.specs.Ordered.{Parts};
+ghost use mathlib.Core.List.{_∷_, _++_};
+ghost use lib.IntN.{pos, _+ℤ_, _*ℤ_};
+ghost use Rattle.std.specs.Written.{decimal, signed};
+ghost use Rattle.std.specs.declared.option.Option.the-variants.{Some};
+ghost use Rattle.graph.specs.Ordered.{Parts, secondOf, placeOf};
 use super::measure::TimeMeasure;
+use std::fmt;
 
 /// Times in whole seconds, and within a second by a place 0 to 1,023, so that strictly later can be told at equal
 /// seconds. One number is kept, 1,024 × second + place, and an arc's rank is 1,024 × weight + mark.
@@ -14,14 +17,16 @@ pub struct OrderedSeconds {
 impl OrderedSeconds {
     /// The whole second.
     pub fn second(self) -> i64
-        ensures { λ r. ⌜ ((place : ℕ) × Parts (self .rank) r place) ⌝ }
+        ensures value { λ r. ⌜ r ≡ secondOf (self .rank) ⌝ }
+        ensures parts { λ r. ⌜ Parts (self .rank) r (placeOf (self .rank)) ⌝ }
     {
         self.rank.div_euclid(1024)
     }
 
     /// The place within the second.
     pub fn place(self) -> u16
-        ensures { λ r. ⌜ ((second : ℤ) × Parts (self .rank) second r) ⌝ }
+        ensures value { λ r. ⌜ r ≡ placeOf (self .rank) ⌝ }
+        ensures parts { λ r. ⌜ Parts (self .rank) (secondOf (self .rank)) r ⌝ }
     {
         self.rank.rem_euclid(1024) as u16
     }
@@ -50,5 +55,16 @@ pub impl TimeMeasure for OrderedSeconds as OrderedSecondsMeasure {
 
     fn is_below(self, other: OrderedSeconds) -> bool {
         self.rank < other.rank
+    }
+}
+
+/// SECOND/PLACE.
+pub impl fmt::Display for OrderedSeconds as OrderedSecondsDisplay {
+    ghost shown = { λ s. Some (signed (secondOf (s .rank)) ++ (47 ∷ decimal (placeOf (s .rank)))) };
+
+    fn fmt<W: fmt::Write>(&self, f: &mut fmt::Formatter<W>) -> fmt::Result {
+        let second = self.second();
+        let place = self.place();
+        write!(f, "{second}/{place}")
     }
 }

@@ -1,5 +1,8 @@
 ghost use mathlib.Core.Path.{_≡_};
+ghost use Rattle.std.specs.Written.{signed};
+ghost use Rattle.std.specs.declared.option.Option.the-variants.{Some};
 use super::measure::TimeMeasure;
+use std::fmt;
 
 /// Times in whole seconds: an arc's rank is its weight, and its mark counts for nothing.
 #[derive(Clone, Copy, Debug, PartialEq, Eq)]
@@ -38,5 +41,14 @@ pub impl TimeMeasure for Seconds as SecondsMeasure {
 
     fn is_below(self, other: Seconds) -> bool {
         self.value < other.value
+    }
+}
+
+pub impl fmt::Display for Seconds as SecondsDisplay {
+    ghost shown = { λ s. Some (signed (s .value)) };
+
+    fn fmt<W: fmt::Write>(&self, f: &mut fmt::Formatter<W>) -> fmt::Result {
+        let value = self.value;
+        write!(f, "{value}")
     }
 }

@@ -2,6 +2,7 @@
 
 mod faults;
 mod laws;
+mod words;
 
 pub use faults::CaseFault;
 pub use faults::CaseFaultDebug;
@@ -11,3 +12,5 @@ pub use faults::MessageFaultDebug;
 pub use faults::MessageFaultFromCase;
 pub use faults::MessageFaultPartialEq;
 pub use laws::message_laws_hold;
+pub use words::CaseFaultDisplay;
+pub use words::MessageFaultDisplay;

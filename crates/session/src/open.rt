@@ -2,7 +2,7 @@ ghost use mathlib.Core.Path.{_≡_};
 ghost use mathlib.Core.Bool.{true};
 ghost use mathlib.Core.List.{_++_};
 ghost use Prim.Native.Nat.{_+_, _-_, _≤_, _<_};
-ghost use lib.ListN.{length, getD, replicate};
+ghost use lib.ListN.{length, getD, take, replicate};
 ghost use Rattle.std.specs.Of.Vec.{vec-items, vec-len};
 ghost use Rattle.std.specs.Options.{Cases as BySome};
 ghost use Rattle.std.specs.shelf.Lists.{All};
@@ -96,11 +96,12 @@ impl OpenCase {
         }
     }
 
-    /// The arms that are chosen, 0 where undecided and past the last pair.
-    pub fn arms(&self) -> [u8; 60]
-        ensures { λ r. ⌜ r ≡ now (self .entry) .arms ⌝ }
+    /// The arms that are chosen, one for each pair, 0 where undecided.
+    pub fn arms(&self) -> &[u8]
+        ensures { λ r. ⌜ now r ≡ take (length (messageCase (vec-items (now (self .entry) .message)) .pairs)) (now (self .entry) .arms) ⌝ }
     {
-        self.arms
+        let pairs = self.size().pairs;
+        &self.arms[0..pairs]
     }
 
     /// Chooses an arm, 1 or 2, of the first pairs, one after the other, or 0 to leave a pair undecided; the other pairs are
