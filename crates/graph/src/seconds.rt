@@ -11,10 +11,12 @@ pub struct Seconds {
 }
 
 impl Seconds {
+    /// The seconds.
     pub fn value(self) -> i64
         ensures { λ r. ⌜ r ≡ self .value ⌝ }
     {
-        self.value
+        let Seconds { value } = self;
+        value
     }
 }
 

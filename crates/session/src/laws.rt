@@ -1,8 +1,10 @@
+ghost use lib.Dec.{T};
 ghost use Rattle.session.specs.Hex.{Hex-law};
 
 /// Bytes that are written in hexadecimal read back the same.
 pub fn hex_law_holds() -> bool
-    ensures { λ _. ⌜ Hex-law ⌝ }
+    ensures holds { λ r. ⌜ T r ⌝ }
+    ensures law { λ _. ⌜ Hex-law ⌝ }
 {
     true
 }
