@@ -3,4 +3,3 @@ pub mod Shown
 pub mod Placed
 pub mod Rounding
 pub mod Settling
-pub mod Split

@@ -4,4 +4,3 @@ pub mod Times
 pub mod Views
 pub mod Told
 pub mod Steps
-pub mod Ordered

@@ -4,8 +4,6 @@
 mod arc;
 mod laws;
 mod measure;
-mod ordered;
-mod seconds;
 mod source;
 mod times;
 
@@ -17,16 +15,6 @@ pub use arc::PairDebug;
 pub use arc::PairPartialEq;
 pub use laws::times_laws_hold;
 pub use measure::TimeMeasure;
-pub use ordered::OrderedSeconds;
-pub use ordered::OrderedSecondsDebug;
-pub use ordered::OrderedSecondsDisplay;
-pub use ordered::OrderedSecondsMeasure;
-pub use ordered::OrderedSecondsPartialEq;
-pub use seconds::Seconds;
-pub use seconds::SecondsDebug;
-pub use seconds::SecondsDisplay;
-pub use seconds::SecondsMeasure;
-pub use seconds::SecondsPartialEq;
 pub use source::CaseSource;
 pub use times::TooFewPlaces;
 pub use times::TooFewPlacesDebug;

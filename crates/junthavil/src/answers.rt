@@ -2,17 +2,17 @@ use super::command::Command;
 use super::command::Measure;
 use super::command::MisreadDisplay;
 use super::command::read;
-use graph::OrderedSeconds;
-use graph::OrderedSecondsDisplay;
-use graph::OrderedSecondsMeasure;
-use graph::Seconds;
-use graph::SecondsDisplay;
-use graph::SecondsMeasure;
+use hex::first_difference;
+use hex::write_hex;
+use measures::OrderedSeconds;
+use measures::OrderedSecondsDisplay;
+use measures::OrderedSecondsMeasure;
+use measures::Seconds;
+use measures::SecondsDisplay;
+use measures::SecondsMeasure;
 use messages::MessageFaultDisplay;
 use session::ArmsFault;
 use session::OpenCase;
-use session::first_difference;
-use session::write_hex;
 use std::alloc::AllocError;
 use std::alloc::Global;
 use std::fmt::Display;
@@ -38,7 +38,10 @@ pub(crate) struct Session {
 
 /// The line for a command that wants an open case where there is none.
 fn no_case(heap: Global, number: u64) -> Result<String, AllocError> {
-    format!(heap, "error line {number}: no case is open; take one by message HEX\n")
+    format!(
+        heap,
+        "error line {number}: no case is open; take one by message HEX\n"
+    )
 }
 
 /// A word and then the items, with a space before each.
@@ -52,7 +55,10 @@ fn row<T: Display>(heap: Global, word: &str, items: &[T]) -> Result<String, Allo
 }
 
 /// The lines for least times, whose last is the delay, or for none.
-fn times_lines<V: Display + Drop>(heap: Global, times: Option<Vec<V>>) -> Result<String, AllocError> {
+fn times_lines<V: Display + Drop>(
+    heap: Global,
+    times: Option<Vec<V>>,
+) -> Result<String, AllocError> {
     let Some(times) = times else {
         return String::from_str(heap, "times none\n");
     };
@@ -88,7 +94,10 @@ impl Session {
                 let layer = fault.layer();
                 let cause = fault.cause();
                 let place = fault.place();
-                format!(heap, "refused layer {layer} cause {cause} place {place}: {fault}\n")
+                format!(
+                    heap,
+                    "refused layer {layer} cause {cause} place {place}: {fault}\n"
+                )
             }
         }
     }

@@ -1,6 +1,5 @@
-use session::HexFault;
-use session::read_hex;
-
+use hex::HexFault;
+use hex::read_hex;
 use std::alloc::Global;
 use std::fmt;
 use std::str::SplitWhitespace;

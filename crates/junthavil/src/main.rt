@@ -1,7 +1,7 @@
 //! A session on text lines, from standard input or from a file: one command a line, each answered in fixed words.
 
-mod command;
 mod answers;
+mod command;
 
 use answers::Session;
 use answers::help;

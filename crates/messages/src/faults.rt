@@ -2,6 +2,10 @@ ghost use mathlib.Core.Path.{_≡_};
 ghost use Rattle.messages.specs.Named.{ofCase, ofMessage};
 ghost use Rattle.messages.specs.declared.faults.MessageFault.{MessageFault};
 
+const MESSAGE_LAYER: u8 = 1;
+
+const CASE_LAYER: u8 = 2;
+
 /// Why a case is refused. An arc is named by its number: the fixed arcs first, then each pair's arms.
 #[derive(Clone, Copy, Debug, PartialEq, Eq)]
 pub enum CaseFault {
@@ -18,12 +22,14 @@ pub enum CaseFault {
 }
 
 impl CaseFault {
+    /// The layer that refuses: the case.
     pub fn layer(self) -> u8
         ensures { λ r. ⌜ r ≡ ofCase self .layer ⌝ }
     {
-        2
+        CASE_LAYER
     }
 
+    /// What is wrong, by its number.
     pub fn cause(self) -> u8
         ensures { λ r. ⌜ r ≡ ofCase self .cause ⌝ }
     {
@@ -36,6 +42,7 @@ impl CaseFault {
         }
     }
 
+    /// Where: the field of a size, in its order, or the arc.
     pub fn place(self) -> usize
         ensures { λ r. ⌜ r ≡ ofCase self .place ⌝ }
     {
@@ -68,15 +75,17 @@ pub enum MessageFault {
 }
 
 impl MessageFault {
+    /// The layer that refuses: the message, or the case that it carries.
     pub fn layer(self) -> u8
         ensures { λ r. ⌜ r ≡ ofMessage self .layer ⌝ }
     {
         match self {
             MessageFault::Case(fault) => fault.layer(),
-            _ => 1,
+            _ => MESSAGE_LAYER,
         }
     }
 
+    /// What is wrong, by its number.
     pub fn cause(self) -> u8
         ensures { λ r. ⌜ r ≡ ofMessage self .cause ⌝ }
     {
@@ -90,6 +99,7 @@ impl MessageFault {
         }
     }
 
+    /// Where: a byte of the message, a number of bytes, or where the case's fault is.
     pub fn place(self) -> usize
         ensures { λ r. ⌜ r ≡ ofMessage self .place ⌝ }
     {

@@ -24,14 +24,20 @@ pub impl fmt::Display for MessageFault as MessageFaultDisplay {
     fn fmt<W: fmt::Write>(&self, f: &mut fmt::Formatter<W>) -> fmt::Result {
         match *self {
             MessageFault::Short(length) => {
-                write!(f, "the message has {length} bytes, and its head alone has 10")
+                write!(
+                    f,
+                    "the message has {length} bytes, and its head alone has 10"
+                )
             }
             MessageFault::Version => write!(f, "the version is not 1"),
             MessageFault::Events => write!(f, "the last event is not 1 to 511"),
             MessageFault::TooManyFixedArcs => write!(f, "there are more than 2048 fixed arcs"),
             MessageFault::TooManyPairs => write!(f, "there are more than 60 pairs"),
             MessageFault::Length => {
-                write!(f, "the length is not what the numbers of arcs and pairs ask for")
+                write!(
+                    f,
+                    "the length is not what the numbers of arcs and pairs ask for"
+                )
             }
             MessageFault::NoRoom(needed) => write!(f, "the message needs {needed} bytes"),
             MessageFault::Case(fault) => write!(f, "{fault}"),

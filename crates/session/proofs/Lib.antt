@@ -1,4 +1,2 @@
-pub mod Digits
-pub mod Comparing
-pub mod Tables
 pub mod Refilled
+pub mod Tables
