@@ -1,6 +1,6 @@
 -- The two bounds are lower bounds, and whether a pair is decided can be read off the arms. Assumes nothing.
 use mathlib.Core.Path.{_≡_, refl, ap, _∙_}
-use mathlib.Core.Bool.{Bool, true, false, cond, not, _||_}
+use mathlib.Core.Bool.{false, cond, not, _||_}
 use mathlib.Core.List.{List, [], _∷_}
 use Prim.Native.Nat.{ℕ, zero, suc, _≤_, _<_}
 use native.Mathlib.Omega.{arith}
@@ -9,7 +9,6 @@ use lib.ListN.{length, getD}
 use Rattle.std.proofs.shelf.Signed.{ints}
 use Rattle.std.proofs.shelf.Tests.{cond-both}
 use Rattle.std.proofs.shelf.Ways.{tells}
-use Rattle.std.specs.declared.option.Option.the-variants.{Some}
 use Rattle.graph.specs.Graph.{Pair, selectionOf, delay}
 use Rattle.bounds.specs.Bounds.{AtMost, LowerBound, longestPath}
 use Rattle.bounds.proofs.Lower.{longest-lower}

@@ -1,11 +1,9 @@
-use mathlib.Core.Path.{sym, subst}
-use mathlib.Core.List.{List}
-use Prim.Native.Nat.{ℕ, _<_}
+use Prim.Native.Nat.{_<_}
 use native.Mathlib.Omega.{arith}
 use lib.ListN.{length}
 use Rattle.bounds.specs.Bounds.{longestPath, lookAhead}
 use Rattle.bounds.proofs.Asked.{asked-still, asked-after}
-use Rattle.bounds.proofs.Tried.{Trying, trying-start, trying-more, trying-same, trying-all}
+use Rattle.bounds.proofs.Tried.{trying-start, trying-more, trying-same, trying-all}
 use Rattle.bounds.proofs.ahead.LookAheadBound.ask.Needs as need
 use Rattle.bounds.proofs.ahead.LookAheadBound.ask.Needs.{then-is-undecided, else-is-undecided}
 
