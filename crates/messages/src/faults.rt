@@ -2,10 +2,6 @@ ghost use mathlib.Core.Path.{_≡_};
 ghost use Rattle.messages.specs.Named.{ofCase, ofMessage};
 ghost use Rattle.messages.specs.declared.faults.MessageFault.{MessageFault};
 
-const MESSAGE_LAYER: u8 = 1;
-
-const CASE_LAYER: u8 = 2;
-
 /// Why a case is refused. An arc is named by its number: the fixed arcs first, then each pair's arms.
 #[derive(Clone, Copy, Debug, PartialEq, Eq)]
 pub enum CaseFault {
@@ -26,7 +22,7 @@ impl CaseFault {
     pub fn layer(self) -> u8
         ensures { λ r. ⌜ r ≡ ofCase self .layer ⌝ }
     {
-        CASE_LAYER
+        2
     }
 
     /// What is wrong, by its number.
@@ -81,7 +77,7 @@ impl MessageFault {
     {
         match self {
             MessageFault::Case(fault) => fault.layer(),
-            _ => MESSAGE_LAYER,
+            _ => 1,
         }
     }
 
