@@ -55,7 +55,7 @@ fn with_either<S: CaseSource, V: TimeMeasure>(
 
 /// The longest path, and one pair ahead: each undecided pair is tried with either arm, and its value is the smaller
 /// longest path. The answer is the largest of these and the longest path.
-#[derive(Clone, Copy, Debug, PartialEq, Eq)]
+#[derive(Clone, Copy)]
 pub struct LookAhead;
 
 pub impl Bound for LookAhead as LookAheadBound {

@@ -5,7 +5,7 @@ use graph::CaseSource;
 use graph::TimeMeasure;
 
 /// The larger of two bounds.
-#[derive(Clone, Copy, Debug, PartialEq, Eq)]
+#[derive(Clone, Copy)]
 pub struct Larger<A, B> {
     pub one: A,
     pub other: B,

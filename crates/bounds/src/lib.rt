@@ -11,18 +11,12 @@ mod trial;
 
 pub use ahead::LookAhead;
 pub use ahead::LookAheadBound;
-pub use ahead::LookAheadDebug;
-pub use ahead::LookAheadPartialEq;
 pub use bound::Bound;
 pub use compare::earlier;
 pub use compare::later;
 pub use larger::Larger;
 pub use larger::LargerBound;
 pub use larger::LargerClone;
-pub use larger::LargerDebug;
-pub use larger::LargerPartialEq;
 pub use laws::bounds_laws_hold;
 pub use longest::LongestPath;
 pub use longest::LongestPathBound;
-pub use longest::LongestPathDebug;
-pub use longest::LongestPathPartialEq;

@@ -5,7 +5,7 @@ use graph::TimeMeasure;
 use graph::least_times;
 
 /// The longest path: the least time of the last event.
-#[derive(Clone, Copy, Debug, PartialEq, Eq)]
+#[derive(Clone, Copy)]
 pub struct LongestPath;
 
 pub impl Bound for LongestPath as LongestPathBound {

@@ -17,7 +17,7 @@ use Rattle.std.proofs.shelf.Elements.{all-append, all-has, all-weaker, all-has-
 use Rattle.std.proofs.shelf.Signed.{ints, by-ltZ}
 use Rattle.std.proofs.shelf.Tests.{cases-lt, cases-order, cases-eq, and-parts, and-from, eqb-true, eq-eqb, cond-both, both-ways}
 use Rattle.graph.specs.Graph.{Arc, Pair, Case, Within, ArcWithin, Ranking, Timetable, Selection, Keeps, arcs, selected, chosen}
-use Rattle.graph.specs.Times.{Least, Path, here, along, from-start, NoCycle, Longest, floor, raisedBy, raised, rounds, keptAll, leastTimes, timeOf, NoTimes, AreLeast, PositiveCycle, Feasible, Infeasible, TimesMean, Times-laws}
+use Rattle.graph.specs.Times.{Least, Path, here, along, from-start, NoCycle, Longest, floor, raisedBy, raised, rounds, keptAll, leastTimes, timeOf, NoTimes, AreLeast, PositiveCycle, Feasible, Infeasible, TimesMean, TimesLaw}
 
 -- ---- a path under a timetable that keeps the arcs
 
@@ -392,5 +392,5 @@ module _ (r : Ranking) (c : Case) (s : Selection) where
 pub worked-out : (r : Ranking) (c : Case) (s : Selection) → Within c → AreLeast r c s (leastTimes r c s)
 worked-out r c s w = look r c s w (eqb (getD (last r c s) 0 0) 0 && keptAll r (last r c s) (arcs c s)) refl
 
-pub times-laws : Times-laws
+pub times-laws : (r : Ranking) (c : Case) (s : Selection) → Within c → TimesLaw r c s
 times-laws r c s w = mean r c s w (leastTimes r c s) (worked-out r c s w)

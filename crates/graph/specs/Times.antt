@@ -100,7 +100,3 @@ TimesMean r c s (Some ts) = Feasible r c s ts
 -- what is worked out are the least times, or there are none
 abbrev pub TimesLaw : Ranking → Case → Selection → Type 0
 TimesLaw r c s = TimesMean r c s (leastTimes r c s)
-
--- the law, over every ranking, every case within the limits and every selection
-abbrev pub Times-laws : Type 0
-Times-laws = (r : Ranking) (c : Case) (s : Selection) → Within c → TimesLaw r c s

@@ -2,7 +2,6 @@
 //! selection, worked out by one text for every source and every measure.
 
 mod arc;
-mod laws;
 mod measure;
 mod source;
 mod times;
@@ -13,10 +12,7 @@ pub use arc::ArcPartialEq;
 pub use arc::Pair;
 pub use arc::PairDebug;
 pub use arc::PairPartialEq;
-pub use laws::times_laws_hold;
 pub use measure::TimeMeasure;
 pub use source::CaseSource;
 pub use times::TooFewPlaces;
-pub use times::TooFewPlacesDebug;
-pub use times::TooFewPlacesPartialEq;
 pub use times::least_times;

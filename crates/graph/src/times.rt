@@ -15,7 +15,7 @@ use super::measure::TimeMeasure;
 use super::source::CaseSource;
 
 /// A call for times was handed fewer places than the case has events.
-#[derive(Clone, Copy, Debug, PartialEq, Eq)]
+#[derive(Clone, Copy)]
 pub struct TooFewPlaces {
     /// How many places the case asks for: one for each event.
     pub needed: usize,

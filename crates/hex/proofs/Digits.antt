@@ -12,7 +12,7 @@ use Rattle.std.specs.shelf.Lists.{All}
 use Rattle.std.proofs.shelf.Lists.{take-more, append-assoc, length-take}
 use Rattle.std.proofs.shelf.Ways.{tells}
 use Rattle.std.specs.declared.result.Result.the-variants.{Err}
-use Rattle.hex.specs.Hex.{hexValue, hexDigit, hexByte, hexBytes, hexText, Hex-law, HexRead}
+use Rattle.hex.specs.Hex.{hexValue, hexDigit, hexByte, hexBytes, hexText, HexRead}
 use Rattle.hex.specs.declared.text.HexFault.{HexFault}
 use Rattle.hex.specs.declared.text.HexFault.the-variants.{Digit}
 
@@ -78,7 +78,8 @@ hex-odd (x ∷ y ∷ t) e = ap (hexByte (hexValue x) (hexValue y)) (hex-odd t (o
 digit-value : (v : ℕ) → v < 16 → hexValue (hexDigit v) ≡ Some v
 digit-value v h = grind (arith, tells)
 
-pub hex-law : Hex-law
+-- what is written reads back the same
+pub hex-law : (bs : List ℕ) → All (λ b. b < 256) bs → hexBytes (hexText bs) ≡ Some bs
 hex-law [] a = refl
 hex-law (b ∷ bs) a =
     let h : b < 256 = a .0 in

@@ -12,7 +12,6 @@ use Rattle.std.specs.declared.option.Option.{Option}
 use Rattle.std.specs.declared.option.Option.the-variants.{Some, None}
 use Rattle.std.specs.declared.result.Result.{Result}
 use Rattle.std.specs.declared.result.Result.the-variants.{Ok, Err}
-use Rattle.std.specs.shelf.Lists.{All}
 use Rattle.std.specs.shelf.Maps.{nth}
 use Rattle.hex.specs.declared.text.HexFault.{HexFault}
 use Rattle.hex.specs.declared.text.HexFault.the-variants.{Odd, Digit, Memory}
@@ -42,10 +41,6 @@ hexBytes (h ∷ l ∷ cs) = hexByte (hexValue h) (hexValue l) (hexBytes cs)
 abbrev pub hexText : List ℕ → List ℕ
 hexText [] = []
 hexText (b ∷ bs) = hexDigit (b / 16) ∷ hexDigit (b % 16) ∷ hexText bs
-
--- what is written reads back the same
-abbrev pub Hex-law : Type 0
-Hex-law = (bs : List ℕ) → All (λ b. b < 256) bs → hexBytes (hexText bs) ≡ Some bs
 
 -- what a reading of hexadecimal text answers: the bytes; or it is none, since it has an odd number of digits, or no digit at an index; or memory is short
 abbrev pub HexRead : List ℕ → Result (Vec ℕ Global) HexFault → Type 0

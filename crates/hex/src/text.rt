@@ -5,14 +5,14 @@ ghost use Rattle.std.specs.Of.String.{string-bytes};
 ghost use Rattle.std.specs.Results.{Cases};
 ghost use Rattle.std.specs.Vec.{made};
 ghost use Rattle.std.specs.declared.option.Option.the-variants.{Some, None};
-ghost use Rattle.hex.specs.Hex.{hexValue, hexDigit, hexText, HexRead, Differs};
+ghost use Rattle.hex.specs.Hex.{hexValue, hexDigit, hexBytes, hexText, HexRead, Differs};
 ghost use Rattle.hex.specs.declared.text.HexFault.the-variants.{Digit, Memory};
 use std::alloc::AllocError;
 use std::alloc::Global;
 use std::alloc::Refused;
 
 /// Why a text is no row of bytes in hexadecimal.
-#[derive(Clone, Copy, Debug, PartialEq, Eq)]
+#[derive(Clone, Copy)]
 pub enum HexFault {
     /// Two digits make a byte, and their number is odd.
     Odd,
@@ -82,9 +82,10 @@ pub fn read_hex(heap: Global, text: &str) -> Result<Vec<u8>, HexFault>
     Ok(bytes)
 }
 
-/// Writes bytes in hexadecimal, in lower case.
+/// Writes bytes in hexadecimal, in lower case; what is written reads back the same.
 pub fn write_hex(heap: Global, bytes: &[u8]) -> Result<String, AllocError>
-    ensures { λ r. ⌜ made r (λ s. string-bytes s ≡ hexText (now (bytes .entry))) ⌝ }
+    ensures written { λ r. ⌜ made r (λ s. string-bytes s ≡ hexText (now (bytes .entry))) ⌝ }
+    ensures law { λ _. ⌜ hexBytes (hexText (now (bytes .entry))) ≡ Some (now (bytes .entry)) ⌝ }
 {
     let mut text = String::new(heap);
     for byte in bytes {

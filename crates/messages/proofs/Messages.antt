@@ -19,7 +19,7 @@ use Rattle.std.specs.declared.option.Option.{Option}
 use Rattle.std.specs.declared.option.Option.the-variants.{Some, None}
 use Rattle.graph.specs.Faults.{Fault}
 use Rattle.graph.specs.Graph.{Arc, Pair, Case, Within, ArcWithin}
-use Rattle.messages.specs.Message.{fixedFault, pairsFault, arcsFault, listedFault, u16-at, u32-at, arc-at, arcs-at, pairs-at, contents, messageFault, unlessFaulty, messageCase, u16-bytes, u32-bytes, arc-bytes, arcs-bytes, pairs-bytes, message, ReadsBack, Message-laws}
+use Rattle.messages.specs.Message.{fixedFault, pairsFault, arcsFault, listedFault, u16-at, u32-at, arc-at, arcs-at, pairs-at, contents, messageFault, unlessFaulty, messageCase, u16-bytes, u32-bytes, arc-bytes, arcs-bytes, pairs-bytes, message, ReadsBack, TakesLimits, WritesBack}
 use Rattle.messages.proofs.Checks.{orElse-none, none-orElse, cond-none, none-cond, fixed-within, within-fixed, pairs-within, within-pairs, empty-within}
 
 pub within-unless : (c : Case) (f : Option Fault) → (f ≡ None → Within c) → Within (unlessFaulty c f)
@@ -410,12 +410,8 @@ message-small c w =
 pub reads-back-law : (c : Case) → Within c → ReadsBack c
 reads-back-law c w = record { accepted = accepted c w; same = reads-back c w }
 
-pub message-laws : Message-laws
-message-laws = record {
-  listed-within = listed-within;
-  listed-taken = within-listed;
-  accepted-within = accepted-within;
-  bytes = message-small;
-  reads-back = reads-back-law;
-  writes-back = writes-back;
-}
+pub takes-limits : (c : Case) → TakesLimits c
+takes-limits c = record { taken-within = listed-within c; within-taken = within-listed c }
+
+pub writes-back-law : (bs : List ℕ) → All (λ b. b < 256) bs → WritesBack bs
+writes-back-law bs small = record { within = accepted-within bs; same = writes-back bs small }

@@ -9,7 +9,6 @@ use lib.ListN.{length, getD, take, drop}
 use lib.Signed.{ltZ}
 use mir.Syntax.{w32}
 use mir.Val.{toZ, ofZ}
-use Rattle.std.specs.shelf.Lists.{All}
 use Rattle.std.specs.declared.option.Option.{Option}
 use Rattle.std.specs.declared.option.Option.the-variants.{Some, None}
 use Rattle.graph.specs.Faults.{Fault, fault, orElse}
@@ -125,12 +124,12 @@ pub record ReadsBack (c : Case) : Type 0 where
   pub accepted : messageFault (message c) ≡ None
   pub same : messageCase (message c) ≡ c
 
--- the checks take exactly the cases within the limits, what a message means is always within them, what is written are bytes, a case that is written reads back the same,
--- and an accepted message is written back byte for byte
-pub record Message-laws : Type 0 where
-  pub listed-within : (c : Case) → listedFault c ≡ None → Within c
-  pub listed-taken : (c : Case) → Within c → listedFault c ≡ None
-  pub accepted-within : (bs : List ℕ) → Within (messageCase bs)
-  pub bytes : (c : Case) → Within c → All (λ b. b < 256) (message c)
-  pub reads-back : (c : Case) → Within c → ReadsBack c
-  pub writes-back : (bs : List ℕ) → All (λ b. b < 256) bs → messageFault bs ≡ None → message (messageCase bs) ≡ bs
+-- the check of a listed case takes exactly those within the limits
+pub record TakesLimits (c : Case) : Type 0 where
+  pub taken-within : listedFault c ≡ None → Within c
+  pub within-taken : Within c → listedFault c ≡ None
+
+-- what a message means is within the limits, and an accepted message is written back byte for byte
+pub record WritesBack (bs : List ℕ) : Type 0 where
+  pub within : Within (messageCase bs)
+  pub same : messageFault bs ≡ None → message (messageCase bs) ≡ bs

@@ -1,7 +1,6 @@
-//! The format of messages, as definitions with their laws, and the faults by which a case or a message is refused.
+//! The format of messages, as definitions with their laws (specs and proofs), and the faults by which a case or a message is refused.
 
 mod faults;
-mod laws;
 mod words;
 
 pub use faults::CaseFault;
@@ -11,6 +10,5 @@ pub use faults::MessageFault;
 pub use faults::MessageFaultDebug;
 pub use faults::MessageFaultFromCase;
 pub use faults::MessageFaultPartialEq;
-pub use laws::message_laws_hold;
 pub use words::CaseFaultDisplay;
 pub use words::MessageFaultDisplay;

@@ -27,7 +27,7 @@ use std::alloc::AllocError;
 use std::alloc::Global;
 
 /// How large a case is: its last event, its fixed arcs and its pairs.
-#[derive(Clone, Copy, Debug, PartialEq, Eq)]
+#[derive(Clone, Copy)]
 pub struct CaseSize {
     pub end: usize,
     pub fixed: usize,
@@ -35,7 +35,7 @@ pub struct CaseSize {
 }
 
 /// Why a choice of arms is not taken.
-#[derive(Clone, Copy, Debug, PartialEq, Eq)]
+#[derive(Clone, Copy)]
 pub enum ArmsFault {
     /// There are more arms than pairs.
     TooMany,

@@ -1,7 +1,7 @@
 ghost use mathlib.Core.Path.{_≡_};
 ghost use mathlib.Core.Bool.{true};
 ghost use denote.Ref.{now};
-ghost use Rattle.messages.specs.Message.{listedFault};
+ghost use Rattle.messages.specs.Message.{listedFault, TakesLimits};
 ghost use Rattle.sources.specs.Lists.{listed};
 ghost use Rattle.sources.specs.Means.{listedMeans};
 ghost use Rattle.messages.specs.Told.{caseTold, passes};
@@ -47,7 +47,8 @@ impl<'a> Unchecked for Lists<'a> as ListsLists {
 
 /// Checks a case that is listed: its sizes, then each arc.
 pub fn check_listed<'a>(end: usize, fixed: &'a [Arc], pairs: &'a [Pair]) -> Result<(), CaseFault>
-    ensures { λ r. ⌜ caseTold r ≡ listedFault (listed end (now (fixed .entry)) (now (pairs .entry))) ⌝ }
+    ensures told { λ r. ⌜ caseTold r ≡ listedFault (listed end (now (fixed .entry)) (now (pairs .entry))) ⌝ }
+    ensures law { λ _. ⌜ TakesLimits (listed end (now (fixed .entry)) (now (pairs .entry))) ⌝ }
 {
     check_case(&Lists { end, fixed, pairs })
 }

@@ -1,7 +1,7 @@
 ghost use mathlib.Core.Path.{_≡_};
 ghost use denote.Ref.{now};
 ghost use mathlib.Core.Bool.{true};
-ghost use Rattle.messages.specs.Message.{contents, messageCase, messageFault};
+ghost use Rattle.messages.specs.Message.{contents, messageCase, messageFault, WritesBack};
 ghost use Rattle.sources.specs.Means.{messageMeans};
 ghost use Rattle.messages.specs.Told.{messageTold, passes};
 use super::check::check_arcs;
@@ -13,13 +13,21 @@ use graph::CaseSource;
 use messages::MessageFault;
 use messages::MessageFaultFromCase;
 
-/// Checks a message: its head, then each arc.
-pub fn check_message(bytes: &[u8]) -> Result<(), MessageFault>
+/// Checks the head, then each arc.
+fn check_parts(bytes: &[u8]) -> Result<(), MessageFault>
     ensures { λ r. ⌜ messageTold r ≡ messageFault (now (bytes .entry)) ⌝ }
 {
     check_head(bytes)?;
     check_arcs(&Layout::of(bytes))?;
     Ok(())
+}
+
+/// Checks a message: its head, then each arc.
+pub fn check_message(bytes: &[u8]) -> Result<(), MessageFault>
+    ensures told { λ r. ⌜ messageTold r ≡ messageFault (now (bytes .entry)) ⌝ }
+    ensures law { λ _. ⌜ WritesBack (now (bytes .entry)) ⌝ }
+{
+    check_parts(bytes)
 }
 
 /// The case in a message; over bytes that the check refuses, the empty case.
