@@ -1,0 +1,4 @@
+pub mod Kinds
+pub mod Railway
+pub mod Named
+pub mod Laws
