@@ -64,22 +64,23 @@ pub fn check_railway(trains: &[Train], steps: &[Step]) -> Result<(), RailwayFaul
     Ok(())
 }
 
-/// The case of a railway; over trains and steps that the check refuses, the empty case. It keeps its arcs and pairs in
-/// tables, so that each answer is one look.
+/// The case of a railway; over trains and steps that the check refuses, the empty case. Its arcs and pairs stand in
+/// tables that are made once, so that each answer is one look.
 #[derive(Clone, Copy)]
 pub struct Railway<'a> {
     trains: &'a [Train],
     steps: &'a [Step],
     end: usize,
+    /// At most 12 trains have at most 18 fixed arcs each.
     fixed: [Arc; 216],
-    arcs: usize,
-    table: [Pair; 60],
-    pairs: usize,
+    fixed_len: usize,
+    pairs: [Pair; 60],
+    pairs_len: usize,
     ghost last: { end ≡ railwayCase (now trains) (now steps) .end },
-    ghost fewArcs: { arcs ≤ 216 },
-    ghost fewPairs: { pairs ≤ 60 },
-    ghost arcsListed: { arcCodes (arcsIn arcs fixed) ≡ arcCodes (railwayCase (now trains) (now steps) .fixed) },
-    ghost pairsListed: { pairCodes (pairsIn pairs table) ≡ pairCodes (railwayCase (now trains) (now steps) .pairs) },
+    ghost fewFixed: { «fixed_len» ≤ 216 },
+    ghost fewPairs: { «pairs_len» ≤ 60 },
+    ghost fixedListed: { arcCodes (arcsIn «fixed_len» fixed) ≡ arcCodes (railwayCase (now trains) (now steps) .fixed) },
+    ghost pairsListed: { pairCodes (pairsIn «pairs_len» pairs) ≡ pairCodes (railwayCase (now trains) (now steps) .pairs) },
 }
 
 impl<'a> Railway<'a> {
@@ -89,19 +90,19 @@ impl<'a> Railway<'a> {
         ensures steps { λ r. ⌜ now (r .steps) ≡ now (steps .entry) ⌝ }
     {
         let mut fixed = [NO_ARC; 216];
-        let mut table = [NO_PAIR; 60];
-        match list_railway(trains, steps, &mut table) {
-            Ok(pairs) => {
+        let mut pairs = [NO_PAIR; 60];
+        match list_railway(trains, steps, &mut pairs) {
+            Ok(pairs_len) => {
                 let end = last_event(trains);
-                let arcs = list_fixed(trains, steps, end as u16, &mut fixed);
+                let fixed_len = list_fixed(trains, steps, end as u16, &mut fixed);
                 Railway {
                     trains,
                     steps,
                     end,
                     fixed,
-                    arcs,
-                    table,
+                    fixed_len,
                     pairs,
+                    pairs_len,
                 }
             }
             Err(_) => Railway {
@@ -109,11 +110,25 @@ impl<'a> Railway<'a> {
                 steps,
                 end: 1,
                 fixed,
-                arcs: 0,
-                table,
-                pairs: 0,
+                fixed_len: 0,
+                pairs,
+                pairs_len: 0,
             },
         }
+    }
+
+    /// The trains that it was made over.
+    pub fn trains(&self) -> &'a [Train]
+        ensures { λ r. ⌜ now r ≡ now (now (self .entry) .trains) ⌝ }
+    {
+        self.trains
+    }
+
+    /// The steps that it was made over.
+    pub fn steps(&self) -> &'a [Step]
+        ensures { λ r. ⌜ now r ≡ now (now (self .entry) .steps) ⌝ }
+    {
+        self.steps
     }
 }
 
@@ -125,15 +140,15 @@ pub impl<'a> CaseSource for Railway<'a> as RailwaySource {
     }
 
     fn fixed_count(&self) -> usize {
-        self.arcs
+        self.fixed_len
     }
 
     fn pair_count(&self) -> usize {
-        self.pairs
+        self.pairs_len
     }
 
     fn fixed_arc(&self, at: usize) -> Option<Arc> {
-        if at < self.arcs {
+        if at < self.fixed_len {
             Some(self.fixed[at])
         } else {
             None
@@ -141,10 +156,10 @@ pub impl<'a> CaseSource for Railway<'a> as RailwaySource {
     }
 
     fn arm(&self, pair: usize, arm: u8) -> Option<Arc> {
-        if pair >= self.pairs || arm == 0 || arm > 2 {
+        if pair >= self.pairs_len || arm == 0 || arm > 2 {
             return None;
         }
-        let Pair { first, second } = self.table[pair];
+        let Pair { first, second } = self.pairs[pair];
         Some(if arm == 1 { first } else { second })
     }
 }

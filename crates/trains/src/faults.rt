@@ -1,6 +1,9 @@
 ghost use mathlib.Core.Path.{_≡_};
 ghost use Rattle.trains.specs.Named.{ofRailway};
 
+/// The number of the layer of railways.
+const LAYER: u8 = 3;
+
 /// Why a railway is refused.
 #[derive(Clone, Copy, Debug, PartialEq, Eq)]
 pub enum RailwayFault {
@@ -19,7 +22,7 @@ impl RailwayFault {
     pub fn layer(self) -> u8
         ensures { λ r. ⌜ r ≡ ofRailway self .layer ⌝ }
     {
-        3
+        LAYER
     }
 
     /// The number of the cause.

@@ -3,4 +3,4 @@ use Rattle.railway.proofs.source.RailwaySource.pair_count.Needs as need
 use Rattle.railway.proofs.Tables.{pairs-length}
 
 pub returns : need.returns
-returns c = pairs-length (c .args .self .now .pairs) (c .args .self .now .table) _ (c .args .self .now .pairsListed) (omega arith)
+returns c = pairs-length (c .args .self .now .«pairs_len») (c .args .self .now .pairs) _ (c .args .self .now .pairsListed) (omega arith)
