@@ -101,3 +101,6 @@ module _ (n : ℕ) (table : List PairRecord) (ps : List Pair) (same : pairCodes 
 
   pub pairs-past : (k a : ℕ) → n ≤ k → None ≡ armAt ps k a
   pairs-past k a h = ap (armFound a) (in-past pairOf n table ps same-pairs fits k h)
+
+pub few-listed : (n : ℕ) (table : List PairRecord) (ps : List Pair) → length table ≡ 60 → n ≤ 60 → pairsIn n table ≡ ps → length ps ≤ 60
+few-listed n table ps l h e = omega (arith, length-in pairOf n table (omega arith), ap length e)

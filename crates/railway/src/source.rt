@@ -64,8 +64,8 @@ pub fn check_railway(trains: &[Train], steps: &[Step]) -> Result<(), RailwayFaul
     Ok(())
 }
 
-/// The case of a railway; over trains and steps that the check refuses, the empty case. Its arcs and pairs stand in
-/// tables that are made once, so that each answer is one look.
+/// The case of the trains and steps that it was made over; where the check refuses them, the empty case. Its arcs and
+/// pairs stand in tables that are made once, so that each answer is one look.
 #[derive(Clone, Copy)]
 pub struct Railway<'a> {
     trains: &'a [Train],
@@ -115,20 +115,6 @@ impl<'a> Railway<'a> {
                 pairs_len: 0,
             },
         }
-    }
-
-    /// The trains that it was made over.
-    pub fn trains(&self) -> &'a [Train]
-        ensures { λ r. ⌜ now r ≡ now (now (self .entry) .trains) ⌝ }
-    {
-        self.trains
-    }
-
-    /// The steps that it was made over.
-    pub fn steps(&self) -> &'a [Step]
-        ensures { λ r. ⌜ now r ≡ now (now (self .entry) .steps) ⌝ }
-    {
-        self.steps
     }
 }
 

@@ -23,6 +23,7 @@ use Rattle.trains.specs.declared.train.Step.{Step}
 use Rattle.trains.specs.Kinds.{kindNumber, separations, separation}
 use Rattle.trains.specs.Railway.{Trip, trips, lastEvent, runningSum, unhindered, arc, runs, tripArcs, allArcs, met, meeting, stepPairs, tripPairs, pairsWith, allPairs, timetableCase, trainsFault, stepsFault, railwayFault, railwayCase}
 use Rattle.trains.specs.Laws.{Railway-laws}
+use Rattle.trains.proofs.Meetings.{pairs-meet, meetings-paired, kept-apart}
 use Rattle.messages.proofs.Checks.{BothWithin, orElse-none, cond-none}
 use Rattle.messages.proofs.Messages.{within-unless}
 
@@ -299,6 +300,9 @@ pub railway-laws : Railway-laws
 railway-laws =
     record {
       within = railway-within;
+      pairs-meet = pairs-meet;
+      meetings-paired = meetings-paired;
+      kept-apart = kept-apart;
       few-kinds = few-kinds;
       one-kind-each = one-kind-each;
       small-entries = separations-small;

@@ -56,7 +56,8 @@ impl Kind {
         }
     }
 
-    /// The kind that has the number; past 4 there is none.
+    /// The kind that has the number; past 4 there is none. A caller that reads numbers refuses such a train as one that
+    /// breaks a limit, by `RailwayFault::Train` with its index.
     pub fn of_number(number: u8) -> Option<Kind>
         ensures { λ r. ⌜ Numbered number r ⌝ }
     {

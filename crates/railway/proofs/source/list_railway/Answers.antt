@@ -1,12 +1,10 @@
-use mathlib.Core.Path.{ap, _∙_}
-use native.Mathlib.Omega.{arith}
-use lib.ListN.{length}
+use mathlib.Core.Path.{_∙_}
 use Rattle.std.proofs.shelf.Results.{err-from-errBy}
 use Rattle.trains.specs.Named.{ofRailway}
 use Rattle.railway.proofs.source.list_railway.Needs as need
-use Rattle.graph.specs.Views.{pairOf}
+use Rattle.trains.specs.Railway.{trips, allPairs}
 use Rattle.railway.proofs.Checking.{told-many, told-train, told-long, told-step, told-full, told-none}
-use Rattle.railway.proofs.Fillings.{length-in}
+use Rattle.railway.proofs.Tables.{few-listed}
 
 pub returns-then-trains-gt12 : need.returns-then-trains-gt12
 returns-then-trains-gt12 c = record { told = told-many (c .args .trains .now) (c .args .steps .now) (c .if-trains-gt12 .taken); listed = tt }
@@ -27,9 +25,8 @@ returns-in-Break-check-steps c =
 
 pub returns-in-Some : need.returns-in-Some
 returns-in-Some c =
-    let few = length-in pairOf (c .in-Some .count) (c .list-pairs .last .table) (omega (arith, c .list-pairs .array-long, c .in-Some .ensures tt .0)) in
     record {
-      told = told-none (c .args .trains .now) (c .args .steps .now) (c .if-trains-gt12 .left) (c .in-Continue-check-trains .ensures tt) (c .if-steps-step-count .left ∙ c .step-count .ensures) (c .in-Continue-check-steps .ensures tt) (omega (arith, few, ap length (c .in-Some .ensures tt .1), c .in-Some .ensures tt .0));
+      told = told-none (c .args .trains .now) (c .args .steps .now) (c .if-trains-gt12 .left) (c .in-Continue-check-trains .ensures tt) (c .if-steps-step-count .left ∙ c .step-count .ensures) (c .in-Continue-check-steps .ensures tt) (few-listed (c .in-Some .count) (c .list-pairs .last .table) (allPairs (trips 1 (c .args .trains .now) (c .args .steps .now))) (c .list-pairs .array-long) (c .in-Some .ensures tt .0) (c .in-Some .ensures tt .1));
       listed = c .in-Some .ensures tt;
     }
 
