@@ -4,6 +4,7 @@ ghost use denote.Ref.{now};
 ghost use Rattle.std.specs.Vec.{made};
 ghost use Rattle.trains.specs.Named.{railwayTold};
 ghost use Rattle.trains.specs.Railway.{trips, allPairs, railwayFault, railwayCase};
+ghost use Rattle.trains.specs.Running.{RunsLaw};
 ghost use Rattle.railway.specs.Tables.{arcsIn, pairsIn, arcCodes, pairCodes};
 ghost use Rattle.railway.specs.Means.{railwayMeans};
 use super::check::check_steps;
@@ -55,9 +56,11 @@ fn list_railway(
     }
 }
 
-/// Checks a railway: the number of trains, each train, the number of steps, each step, the number of pairs.
+/// Checks a railway: the number of trains, each train, the number of steps, each step, the number of pairs. A timetable
+/// keeps the case of a railway that passes exactly where the railway can run by it.
 pub fn check_railway(trains: &[Train], steps: &[Step]) -> Result<(), RailwayFault>
-    ensures { λ r. ⌜ railwayTold r ≡ railwayFault (now (trains .entry)) (now (steps .entry)) ⌝ }
+    ensures told { λ r. ⌜ railwayTold r ≡ railwayFault (now (trains .entry)) (now (steps .entry)) ⌝ }
+    ensures law { λ _. ⌜ RunsLaw (now (trains .entry)) (now (steps .entry)) ⌝ }
 {
     let mut pairs = [NO_PAIR; 60];
     list_railway(trains, steps, &mut pairs)?;

@@ -1,2 +1,2 @@
-pub mod Meetings
 pub mod Railways
+pub mod Runnings

@@ -23,7 +23,7 @@ use Rattle.trains.specs.declared.train.Step.{Step}
 use Rattle.trains.specs.Kinds.{kindNumber, separations, separation}
 use Rattle.trains.specs.Railway.{Trip, trips, lastEvent, runningSum, unhindered, arc, runs, tripArcs, allArcs, met, meeting, stepPairs, tripPairs, pairsWith, allPairs, timetableCase, trainsFault, stepsFault, railwayFault, railwayCase}
 use Rattle.trains.specs.Laws.{Railway-laws}
-use Rattle.trains.proofs.Meetings.{pairs-meet, meetings-paired, kept-apart}
+use Rattle.trains.proofs.Runnings.{pairs-meet, meetings-paired, runs-law}
 use Rattle.messages.proofs.Checks.{BothWithin, orElse-none, cond-none}
 use Rattle.messages.proofs.Messages.{within-unless}
 
@@ -302,7 +302,7 @@ railway-laws =
       within = railway-within;
       pairs-meet = pairs-meet;
       meetings-paired = meetings-paired;
-      kept-apart = kept-apart;
+      runs = runs-law;
       few-kinds = few-kinds;
       one-kind-each = one-kind-each;
       small-entries = separations-small;

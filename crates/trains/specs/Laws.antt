@@ -1,21 +1,19 @@
 -- The laws of railways. Assumes nothing.
 use mathlib.Core.Path.{_≡_}
 use mathlib.Core.List.{List, [], _∷_}
-use mathlib.Core.Logic.{_⊎_}
 use Prim.Native.Nat.{_≤_}
 use lib.IntN.{pos, negsuc}
 use lib.ListN.{length}
-use Rattle.std.specs.declared.option.Option.the-variants.{None}
 use Rattle.std.specs.shelf.Lists.{All, Has}
 use Rattle.graph.specs.Faults.{fault}
-use Rattle.graph.specs.Graph.{Pair, Case, Within, Ranking, Timetable, Keeps, KeepsCase, emptyCase}
+use Rattle.graph.specs.Graph.{Pair, Case, Within, emptyCase}
 use Rattle.trains.specs.declared.kind.Kind.{Kind}
 use Rattle.trains.specs.declared.kind.Kind.the-variants.{LoadedOre, Staff, LightEngine}
 use Rattle.trains.specs.declared.train.Train.{Train}
 use Rattle.trains.specs.declared.train.Step.{Step}
 use Rattle.trains.specs.Kinds.{kindNumber, separations, separation}
-use Rattle.trains.specs.Meets.{Meets}
-use Rattle.trains.specs.Railway.{Trip, trips, arc, met, allPairs, railwayFault, railwayCase}
+use Rattle.trains.specs.Running.{Meets, RunsLaw}
+use Rattle.trains.specs.Railway.{Trip, arc, met, allPairs, railwayFault, railwayCase}
 
 -- two light engines that run through sections 1 and 2, one each way
 abbrev pub engines : Case
@@ -34,7 +32,7 @@ pub record Railway-laws : Type 0 where
   pub within : (ts : List Train) (ss : List Step) → Within (railwayCase ts ss)
   pub pairs-meet : (ts : List Trip) → All (Meets ts) (allPairs ts)
   pub meetings-paired : (ts : List Trip) (p : Pair) → Meets ts p → Has (allPairs ts) p
-  pub kept-apart : (r : Ranking) (ts : List Train) (ss : List Step) (w : Timetable) → railwayFault ts ss ≡ None → KeepsCase r (railwayCase ts ss) w → (p : Pair) → Meets (trips 1 ts ss) p → Keeps r w (p .first) ⊎ Keeps r w (p .second)
+  pub runs : (ts : List Train) (ss : List Step) → RunsLaw ts ss
   pub few-kinds : (k : Kind) → kindNumber k ≤ 4
   pub one-kind-each : (g h : Kind) → kindNumber g ≡ kindNumber h → g ≡ h
   pub small-entries : All (λ s. s ≤ 240) separations

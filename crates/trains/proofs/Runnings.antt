@@ -1,22 +1,24 @@
--- The pairs are those of two steps of different trains on one section, and of no others.
+-- The pairs are those of two steps of different trains on one section, and of no others; and what keeps the case.
 use mathlib.Core.Path.{_≡_, refl, sym, ap, subst, _∙_}
 use mathlib.Core.Bool.{Bool, true, false, cond}
-use mathlib.Core.List.{List, [], _∷_}
+use mathlib.Core.List.{List, [], _∷_, _++_}
 use mathlib.Core.Logic.{_⊎_}
-use Prim.Native.Nat.{ℕ, zero, suc, _+_, _<_}
+use Prim.Native.Nat.{ℕ, zero, suc, _+_, _<_, max}
 use native.Mathlib.Omega.{arith}
 use lib.Dec.{eqb}
+use lib.IntN.{pos, negℤ}
+use lib.ListN.{length}
 use Rattle.std.specs.declared.option.Option.the-variants.{Some, None}
 use Rattle.std.specs.shelf.Lists.{All, Has}
 use Rattle.std.specs.shelf.Maps.{nth}
-use Rattle.std.proofs.shelf.Elements.{all-append, all-has, has-append-left, has-append-right}
+use Rattle.std.proofs.shelf.Elements.{all-append, all-has, all-weaker, has-append-left, has-append-right}
 use Rattle.std.proofs.shelf.Tests.{cond-true, eqb-true, eq-eqb}
-use Rattle.graph.specs.Graph.{Pair, Ranking, Timetable, Keeps, KeepsCase}
+use Rattle.graph.specs.Graph.{Arc, Pair, Ranking, Timetable, Keeps, KeepsCase}
 use Rattle.messages.proofs.Messages.{unless-none}
 use Rattle.trains.specs.declared.train.Train.{Train}
 use Rattle.trains.specs.declared.train.Step.{Step}
-use Rattle.trains.specs.Meets.{Meets}
-use Rattle.trains.specs.Railway.{Trip, trips, met, meeting, stepPairs, tripPairs, pairsWith, allPairs, timetableCase, railwayFault, railwayCase}
+use Rattle.trains.specs.Running.{Meets, TripKept, Runs, RunsLaw}
+use Rattle.trains.specs.Railway.{Trip, trips, lastEvent, unhindered, arc, runs, tripArcs, allArcs, met, meeting, stepPairs, tripPairs, pairsWith, allPairs, timetableCase, railwayFault, railwayCase}
 
 further : (f b : ℕ) → f + suc b ≡ f + 1 + b
 further f b = omega arith
@@ -131,10 +133,77 @@ meetings-paired ts p m =
     (subst (λ x. Has (tripPairs (m .trip) (m .other-trip) (m .trip .first) (m .trip .steps)) x) (m .pair-is)
     (has-trip (m .trip) (m .other-trip) (m .trip .first) (m .trip .steps) (m .at) (m .step) (m .other-at) (m .other-step) (m .step-is) (m .other-step-is) (m .one-section)))
 
--- what keeps the case keeps such trains apart
+-- what keeps the arcs of a trip, and what keeps the trip
 
-pub kept-apart : (r : Ranking) (ts : List Train) (ss : List Step) (w : Timetable) → railwayFault ts ss ≡ None → KeepsCase r (railwayCase ts ss) w → (p : Pair) → Meets (trips 1 ts ss) p → Keeps r w (p .first) ⊎ Keeps r w (p .second)
-kept-apart r ts ss w e k p m =
-    let same = unless-none (timetableCase ts ss) (railwayFault ts ss) e in
-    let kept = subst (λ c. KeepsCase r c w) same k in
-    all-has (λ q. Keeps r w (q .first) ⊎ Keeps r w (q .second)) (allPairs (trips 1 ts ss)) p (kept .keeps-arm) (meetings-paired (trips 1 ts ss) p m)
+all-front : {X : Type 0} (P : X → Type 0) (xs ys : List X) → All P (xs ++ ys) → All P xs
+all-front P [] ys h = tt
+all-front P (x ∷ xs) ys h = (h .0, all-front P xs ys (h .1))
+
+all-behind : {X : Type 0} (P : X → Type 0) (xs ys : List X) → All P (xs ++ ys) → All P ys
+all-behind P [] ys h = h
+all-behind P (x ∷ xs) ys h = all-behind P xs ys (h .1)
+
+all-runs : (P : Arc → Type 0) (e : ℕ) (ss : List Step) → ((a : ℕ) (s : Step) → nth ss a ≡ Some s → P (arc (e + a) (e + a + 1) (pos (s .running)) 0)) → All P (runs e ss)
+all-runs P e [] h = tt
+all-runs P e (s ∷ ss) h = (
+  subst (λ n. P (arc n (n + 1) (pos (s .running)) 0)) (none-further e) (h 0 s refl),
+  all-runs P (e + 1) ss (λ a v i. subst (λ n. P (arc n (n + 1) (pos (v .running)) 0)) (further e a) (h (suc a) v i)),
+)
+
+runs-all : (P : Arc → Type 0) (e : ℕ) (ss : List Step) → All P (runs e ss) → (a : ℕ) (s : Step) → nth ss a ≡ Some s → P (arc (e + a) (e + a + 1) (pos (s .running)) 0)
+runs-all P e [] h a s i = absurd (none-some s i)
+runs-all P e (v ∷ ss) h zero s i =
+    subst (λ n. P (arc n (n + 1) (pos (s .running)) 0)) (sym (none-further e)) (subst (λ (x : Step). P (arc e (e + 1) (pos (x .running)) 0)) (some-same v s i) (h .0))
+runs-all P e (v ∷ ss) h (suc a) s i = subst (λ n. P (arc n (n + 1) (pos (s .running)) 0)) (sym (further e a)) (runs-all P (e + 1) ss (h .1) a s i)
+
+module _ (r : Ranking) (w : Timetable) (n : ℕ) where
+  trip-kept : (t : Trip) → All (Keeps r w) (tripArcs n t) → TripKept r w n t
+  trip-kept t h =
+      let behind = all-behind (Keeps r w) (runs (t .first) (t .steps)) (arc (t .first + length (t .steps)) n (negℤ (pos (max (t .due) (unhindered t)))) 0 ∷ []) (h .1) in
+      record {
+        entry = h .0;
+        running = runs-all (Keeps r w) (t .first) (t .steps) (all-front (Keeps r w) (runs (t .first) (t .steps)) (arc (t .first + length (t .steps)) n (negℤ (pos (max (t .due) (unhindered t)))) 0 ∷ []) (h .1));
+        exit = behind .0;
+      }
+
+  kept-trip : (t : Trip) → TripKept r w n t → All (Keeps r w) (tripArcs n t)
+  kept-trip t k = (
+    k .entry,
+    all-append (Keeps r w) (runs (t .first) (t .steps)) (arc (t .first + length (t .steps)) n (negℤ (pos (max (t .due) (unhindered t)))) 0 ∷ []) (all-runs (Keeps r w) (t .first) (t .steps) (k .running)) (k .exit, tt),
+  )
+
+  trips-kept : (ts : List Trip) → All (Keeps r w) (allArcs n ts) → All (TripKept r w n) ts
+  trips-kept [] h = tt
+  trips-kept (t ∷ ts) h = (trip-kept t (all-front (Keeps r w) (tripArcs n t) (allArcs n ts) h), trips-kept ts (all-behind (Keeps r w) (tripArcs n t) (allArcs n ts) h))
+
+  kept-trips : (ts : List Trip) → All (TripKept r w n) ts → All (Keeps r w) (allArcs n ts)
+  kept-trips [] k = tt
+  kept-trips (t ∷ ts) k = all-append (Keeps r w) (tripArcs n t) (allArcs n ts) (kept-trip t (k .0)) (kept-trips ts (k .1))
+
+-- a timetable keeps the case of a railway exactly where the railway can run by it
+
+module _ (r : Ranking) (ts : List Train) (ss : List Step) (w : Timetable) (passes : railwayFault ts ss ≡ None) where
+  same : railwayCase ts ss ≡ timetableCase ts ss
+  same = unless-none (timetableCase ts ss) (railwayFault ts ss) passes
+
+  kept-runs : KeepsCase r (railwayCase ts ss) w → Runs r ts ss w
+  kept-runs h =
+      let k = subst (λ c. KeepsCase r c w) same h in
+      record {
+        starts = k .starts;
+        each = trips-kept r w (lastEvent 1 ts) (trips 1 ts ss) (k .keeps-fixed);
+        apart = λ p m. all-has (λ q. Keeps r w (q .first) ⊎ Keeps r w (q .second)) (allPairs (trips 1 ts ss)) p (k .keeps-arm) (meetings-paired (trips 1 ts ss) p m);
+      }
+
+  runs-kept : Runs r ts ss w → KeepsCase r (railwayCase ts ss) w
+  runs-kept k =
+      let kept : KeepsCase r (timetableCase ts ss) w =
+      record {
+        starts = k .starts;
+        keeps-fixed = kept-trips r w (lastEvent 1 ts) (trips 1 ts ss) (k .each);
+        keeps-arm = all-weaker (Meets (trips 1 ts ss)) (λ q. Keeps r w (q .first) ⊎ Keeps r w (q .second)) (k .apart) (allPairs (trips 1 ts ss)) (pairs-meet (trips 1 ts ss));
+      } in
+      subst (λ c. KeepsCase r c w) (sym same) kept
+
+pub runs-law : (ts : List Train) (ss : List Step) → RunsLaw ts ss
+runs-law ts ss passes r w = (kept-runs r ts ss w passes, runs-kept r ts ss w passes)
