@@ -22,7 +22,7 @@ fn step_breaks(step: Step) -> bool
 }
 
 /// Checks each train by itself.
-pub fn check_trains(trains: &[Train]) -> Result<(), RailwayFault>
+pub(crate) fn check_trains(trains: &[Train]) -> Result<(), RailwayFault>
     ensures { λ r. ⌜ railwayTold r ≡ trainsFault 0 (now (trains .entry)) ⌝ }
 {
     for (at, train) in trains.iter().enumerate() {
@@ -34,7 +34,7 @@ pub fn check_trains(trains: &[Train]) -> Result<(), RailwayFault>
 }
 
 /// Checks each step by itself.
-pub fn check_steps(steps: &[Step]) -> Result<(), RailwayFault>
+pub(crate) fn check_steps(steps: &[Step]) -> Result<(), RailwayFault>
     ensures { λ r. ⌜ railwayTold r ≡ stepsFault 0 (now (steps .entry)) ⌝ }
 {
     for (at, step) in steps.iter().enumerate() {
@@ -46,7 +46,7 @@ pub fn check_steps(steps: &[Step]) -> Result<(), RailwayFault>
 }
 
 /// How many steps the trains ask for.
-pub fn step_count(trains: &[Train]) -> usize
+pub(crate) fn step_count(trains: &[Train]) -> usize
     requires { ⌜ length (now trains) ≤ 12 ⌝ }
     ensures { λ r. ⌜ r ≡ stepsOf (now (trains .entry)) ⌝ }
 {

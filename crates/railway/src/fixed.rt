@@ -80,7 +80,12 @@ fn list_trip(trip: Trip, end: u16, steps: &[Step], table: &mut [Arc; 216], liste
 }
 
 /// Lists the fixed arcs of all trains, and says how many there are.
-pub fn list_fixed(trains: &[Train], steps: &[Step], end: u16, table: &mut [Arc; 216]) -> usize
+pub(crate) fn list_fixed(
+    trains: &[Train],
+    steps: &[Step],
+    end: u16,
+    table: &mut [Arc; 216],
+) -> usize
     requires { ⌜ Sound (now trains) (now steps) ⌝ }
     ensures few { λ r. ⌜ r ≤ 216 ⌝ }
     ensures arcs { λ r. ⌜ arcsIn r (now (table .exit)) ≡ allArcs end (trips 1 (now (trains .entry)) (now (steps .entry))) ⌝ }

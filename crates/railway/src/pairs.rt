@@ -125,7 +125,7 @@ fn list_with(
 }
 
 /// Lists the pairs of all trains. None where there are more than sixty.
-pub fn list_pairs(trains: &[Train], steps: &[Step], table: &mut [Pair; 60]) -> Option<usize>
+pub(crate) fn list_pairs(trains: &[Train], steps: &[Step], table: &mut [Pair; 60]) -> Option<usize>
     requires { ⌜ Sound (now trains) (now steps) ⌝ }
     ensures { λ r. ⌜ Added (allPairs (trips 1 (now (trains .entry)) (now (steps .entry)))) (now (table .entry)) 0 (now (table .exit)) r ⌝ }
 {

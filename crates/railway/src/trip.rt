@@ -12,7 +12,7 @@ use trains::Train;
 
 /// A train with its first event, and with its first step in the list of all steps.
 #[derive(Clone, Copy)]
-pub struct Trip {
+pub(crate) struct Trip {
     pub kind: Kind,
     pub entry: u32,
     pub due: u32,
@@ -22,7 +22,7 @@ pub struct Trip {
 }
 
 /// The last event.
-pub fn last_event(trains: &[Train]) -> usize
+pub(crate) fn last_event(trains: &[Train]) -> usize
     requires { ⌜ length (now trains) ≤ 12 ⌝ }
     ensures is { λ r. ⌜ r ≡ lastEvent 1 (now (trains .entry)) ⌝ }
     ensures few { λ r. ⌜ r ≤ 1 + 256 * length (now (trains .entry)) ⌝ }
@@ -35,7 +35,7 @@ pub fn last_event(trains: &[Train]) -> usize
 }
 
 /// A train with its first event and its first step.
-pub fn trip_at(trains: &[Train], at: usize) -> Trip
+pub(crate) fn trip_at(trains: &[Train], at: usize) -> Trip
     requires few { ⌜ length (now trains) ≤ 12 ⌝ }
     requires at { ⌜ at < length (now trains) ⌝ }
     requires sound { ⌜ trainsFault 0 (now trains) ≡ None ⌝ }

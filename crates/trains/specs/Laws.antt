@@ -13,7 +13,7 @@ use Rattle.trains.specs.declared.train.Train.{Train}
 use Rattle.trains.specs.declared.train.Step.{Step}
 use Rattle.trains.specs.Kinds.{kindNumber, separations, separation}
 use Rattle.trains.specs.Running.{Meets, RunsLaw}
-use Rattle.trains.specs.Railway.{Trip, arc, met, allPairs, railwayFault, railwayCase}
+use Rattle.trains.specs.Railway.{Trip, arc, allPairs, railwayFault, railwayCase}
 
 -- two light engines that run through sections 1 and 2, one each way
 abbrev pub engines : Case
@@ -42,7 +42,7 @@ pub record Railway-laws : Type 0 where
   pub engines-meet : engines ≡ record {
     end = 7;
     fixed = arc 0 1 (pos 0) 0 ∷ arc 1 2 (pos 60) 0 ∷ arc 2 3 (pos 60) 0 ∷ arc 3 7 (negsuc 119) 0 ∷ arc 0 4 (pos 0) 0 ∷ arc 4 5 (pos 60) 0 ∷ arc 5 6 (pos 60) 0 ∷ arc 6 7 (negsuc 119) 0 ∷ [];
-    pairs = met LightEngine LightEngine 1 5 ∷ met LightEngine LightEngine 2 4 ∷ [];
+    pairs = record { first = arc 2 5 (pos 0) 1; second = arc 6 1 (pos 0) 1 } ∷ record { first = arc 3 4 (pos 0) 1; second = arc 5 2 (pos 0) 1 } ∷ [];
   }
   pub ore-meets-staff : oreAndStaff ≡ record {
     end = 5;

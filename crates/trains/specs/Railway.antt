@@ -63,11 +63,11 @@ abbrev pub allArcs : ℕ → List Trip → List Arc
 allArcs n [] = []
 allArcs n (t ∷ ts) = tripArcs n t ++ allArcs n ts
 
--- the pair of a step of trip t at event e and one of trip u at event f: t goes first, or u does
+-- the pair of two steps on one section, at events e and f, of trains of kinds g and h: the one goes first, or the other
 abbrev pub met : Kind → Kind → ℕ → ℕ → Pair
 met g h e f = record { first = arc (e + 1) f (pos (separation g h)) 1; second = arc (f + 1) e (pos (separation h g)) 1 }
 
--- a pair where the two steps run through one section
+-- the pair of a step s of trip t and a step q of trip u, if they run through one section
 abbrev pub meeting : Trip → Trip → ℕ → Step → ℕ → Step → List Pair
 meeting t u e s f q = cond (eqb (s .section) (q .section)) (met (t .kind) (u .kind) e f ∷ []) []
 
