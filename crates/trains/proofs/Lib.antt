@@ -1,0 +1,2 @@
+pub mod Railways
+pub mod Runnings

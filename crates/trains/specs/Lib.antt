@@ -1,0 +1,5 @@
+pub mod Kinds
+pub mod Railway
+pub mod Named
+pub mod Running
+pub mod Laws
