@@ -3,6 +3,9 @@ use hex::read_hex;
 use std::alloc::Global;
 use std::fmt;
 use std::str::SplitWhitespace;
+use trains::Kind;
+use trains::Step;
+use trains::Train;
 
 /// What times are told in.
 #[derive(Clone, Copy)]
@@ -15,8 +18,14 @@ pub(crate) enum Measure {
 #[derive(Drop)]
 pub(crate) enum Command {
     Message(Vec<u8>),
+    Railway,
+    Train(Train),
+    Step(Step),
+    End,
     Arms(Vec<u8>),
     Times(Measure),
+    Bounds(Measure),
+    Trains,
     Write,
     Compare(Vec<u8>),
     Help,
@@ -27,31 +36,36 @@ pub(crate) enum Command {
 pub(crate) enum Misread {
     /// The first word is none that is known.
     Unknown,
-    /// A command lacks a word.
-    Missing(&'static str),
     /// A word follows where none is asked for.
     TooMany,
+    /// The bytes are not there.
+    NoBytes,
     /// The bytes are not in hexadecimal.
     Hex(HexFault),
     /// The arm with this number, from 0, is none.
     Arm(usize),
-    /// The times are asked for in something else than seconds or ordered seconds.
+    /// The measure is neither of the two.
     Measure,
+    /// A number is missing, or is none.
+    Number,
+    /// There is no memory for what the line says.
+    Memory,
 }
 
 pub(crate) impl fmt::Display for Misread as MisreadDisplay {
     fn fmt<W: fmt::Write>(&self, f: &mut fmt::Formatter<W>) -> fmt::Result {
         match *self {
             Misread::Unknown => write!(f, "no such command; help lists them"),
-            Misread::Missing(what) => write!(f, "{what} is missing"),
             Misread::TooMany => write!(f, "there are more words than the command takes"),
+            Misread::NoBytes => write!(f, "the bytes in hexadecimal are missing"),
             Misread::Hex(HexFault::Odd) => write!(f, "a hexadecimal digit is missing"),
             Misread::Hex(HexFault::Digit(at)) => {
                 write!(f, "character {at} of the bytes is no hexadecimal digit")
             }
-            Misread::Hex(HexFault::Memory) => write!(f, "there is no memory for the bytes"),
             Misread::Arm(at) => write!(f, "arm {at} is not 0, 1 or 2"),
-            Misread::Measure => write!(f, "times are told in seconds or ordered"),
+            Misread::Measure => write!(f, "say seconds or ordered"),
+            Misread::Number => write!(f, "a number is missing, or is none"),
+            Misread::Memory | Misread::Hex(HexFault::Memory) => write!(f, "there is no memory"),
         }
     }
 }
@@ -66,7 +80,7 @@ impl From<HexFault> for Misread as MisreadFromHex {
 fn bytes_of(heap: Global, word: Option<&str>) -> Result<Vec<u8>, Misread> {
     match word {
         Some(text) => Ok(read_hex(heap, text)?),
-        None => Err(Misread::Missing("the message in hexadecimal")),
+        None => Err(Misread::NoBytes),
     }
 }
 
@@ -76,6 +90,62 @@ fn measure_of(word: Option<&str>) -> Result<Measure, Misread> {
         Some("ordered") => Ok(Measure::Ordered),
         _ => Err(Misread::Measure),
     }
+}
+
+fn number_of(word: Option<&str>) -> Result<u64, Misread> {
+    match word {
+        Some(text) => text.parse::<u64>().ok().ok_or(Misread::Number),
+        None => Err(Misread::Number),
+    }
+}
+
+/// The kind of a train, by its name or number; none where the number is past the last.
+fn kind_of(word: Option<&str>) -> Result<Option<Kind>, Misread> {
+    match word {
+        Some("loaded-ore") => Ok(Some(Kind::LoadedOre)),
+        Some("empty-ore") => Ok(Some(Kind::EmptyOre)),
+        Some("hot-metal") => Ok(Some(Kind::HotMetal)),
+        Some("staff") => Ok(Some(Kind::Staff)),
+        Some("light-engine") => Ok(Some(Kind::LightEngine)),
+        _ => match u8::try_from(number_of(word)?) {
+            Ok(number) => Ok(Kind::of_number(number)),
+            Err(_) => Ok(None),
+        },
+    }
+}
+
+/// A number that is too large for its field stands as the field's largest, which is past the field's limit too.
+fn narrow(number: u64) -> u32 {
+    u32::try_from(number).unwrap_or(u32::MAX)
+}
+
+/// A train as its line has it. One whose kind is none enters past the limit, so that the check refuses the train.
+fn train_of(words: &mut SplitWhitespace) -> Result<Train, Misread> {
+    let kind = kind_of(words.next())?;
+    let entry = narrow(number_of(words.next())?);
+    let due = narrow(number_of(words.next())?);
+    let steps = u8::try_from(number_of(words.next())?).unwrap_or(u8::MAX);
+    match kind {
+        Some(kind) => Ok(Train {
+            kind,
+            entry,
+            due,
+            steps,
+        }),
+        None => Ok(Train {
+            kind: Kind::LoadedOre,
+            entry: u32::MAX,
+            due,
+            steps,
+        }),
+    }
+}
+
+/// A step as its line has it.
+fn step_of(words: &mut SplitWhitespace) -> Result<Step, Misread> {
+    let section = u8::try_from(number_of(words.next())?).unwrap_or(u8::MAX);
+    let running = u16::try_from(number_of(words.next())?).unwrap_or(u16::MAX);
+    Ok(Step { section, running })
 }
 
 /// An arm, or 0 for a pair that is left undecided.
@@ -96,7 +166,7 @@ fn arms_of(heap: Global, words: SplitWhitespace) -> Result<Vec<u8>, Misread> {
             return Err(Misread::Arm(arms.len()));
         };
         if arms.push(arm).is_err() {
-            return Err(Misread::Hex(HexFault::Memory));
+            return Err(Misread::Memory);
         }
     }
     Ok(arms)
@@ -106,8 +176,14 @@ fn arms_of(heap: Global, words: SplitWhitespace) -> Result<Vec<u8>, Misread> {
 fn command_of(heap: Global, word: &str, mut words: SplitWhitespace) -> Result<Command, Misread> {
     let command = match word {
         "message" => Command::Message(bytes_of(heap, words.next())?),
+        "railway" => Command::Railway,
+        "train" => Command::Train(train_of(&mut words)?),
+        "step" => Command::Step(step_of(&mut words)?),
+        "end" => Command::End,
         "arms" => return Ok(Command::Arms(arms_of(heap, words)?)),
         "times" => Command::Times(measure_of(words.next())?),
+        "bounds" => Command::Bounds(measure_of(words.next())?),
+        "trains" => Command::Trains,
         "write" => Command::Write,
         "compare" => Command::Compare(bytes_of(heap, words.next())?),
         "help" => Command::Help,

@@ -2,6 +2,7 @@
 
 mod answers;
 mod command;
+mod lines;
 
 use answers::Session;
 use answers::help;

@@ -1,2 +1,3 @@
 pub mod Refilled
 pub mod Tables
+pub mod Railed

@@ -14,6 +14,10 @@ use Rattle.std.specs.declared.result.Result.the-variants.{Ok, Err}
 use Rattle.std.specs.shelf.Lists.{All}
 use Rattle.graph.specs.Graph.{Case}
 use Rattle.graph.specs.Views.{Shows}
+use Rattle.graph.specs.Faults.{Fault}
+use Rattle.trains.specs.Named.{ofRailway}
+use Rattle.session.specs.declared.open.RailwayRefusal.{RailwayRefusal}
+use Rattle.session.specs.declared.open.RailwayRefusal.the-variants.{Railway, Memory}
 use Rattle.session.specs.declared.open.CaseSize.{CaseSize}
 use Rattle.session.specs.declared.open.ArmsFault.{ArmsFault}
 use Rattle.session.specs.declared.open.ArmsFault.the-variants.{TooMany, Arm}
@@ -27,6 +31,11 @@ abbrev pub ArmsChosen : {X : Type 0} → Case → List ℕ → List ℕ → List
 ArmsChosen c given before after (Ok x) = (length given ≤ length (c .pairs)) × All (λ a. a ≤ 2) given × (after ≡ given ++ replicate (60 - length given) 0)
 ArmsChosen c given before after (Err TooMany) = (length (c .pairs) < length given) × (after ≡ before)
 ArmsChosen c given before after (Err (Arm k)) = (k < length given) × (2 < getD given k 0) × (after ≡ before)
+
+-- why a railway is refused: its fault, or memory is short
+abbrev pub RailwayRefused : Option Fault → RailwayRefusal → Type 0
+RailwayRefused o (Railway f) = o ≡ Some (ofRailway f)
+RailwayRefused o Memory = Unit {0}
 
 -- the times that are found: a value for each event, or none
 abbrev pub TimesFound : {V : Type 0} → (V → ℤ) → Option (List ℕ) → Option (Vec V Global) → Type 0

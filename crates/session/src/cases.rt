@@ -5,8 +5,10 @@ ghost use Rattle.std.specs.Vec.{made};
 ghost use Rattle.std.specs.declared.option.Option.the-variants.{None};
 ghost use Rattle.graph.specs.Graph.{selectionOf};
 ghost use Rattle.graph.specs.Times.{leastTimes, TimesLaw};
+ghost use Rattle.bounds.specs.Told.{RankIs};
 ghost use Rattle.messages.specs.Message.{message, messageCase, messageFault};
 ghost use Rattle.session.specs.Open.{TimesFound};
+use bounds::Bound;
 use graph::CaseSource;
 use graph::TimeMeasure;
 use graph::least_times;
@@ -41,6 +43,20 @@ pub fn times_of<S: CaseSource, V: TimeMeasure>(
         Ok(found) => Ok(if found { Some(times) } else { None }),
         Err(_) => unreachable(),
     }
+}
+
+/// What a bound answers about a selection of any source's case: a value, or none.
+pub fn bound_of<S: CaseSource, V: TimeMeasure, B: Bound>(
+    heap: Global,
+    source: &S,
+    arms: &[u8; 60],
+    bound: &B,
+) -> Result<Option<V>, AllocError>
+    ensures { λ r. ⌜ made r (λ o. RankIs (V·TimeMeasure .rank) o (B·Bound .meaning (now (bound .entry)) (S·CaseSource .means (now (source .entry)) .case) (selectionOf (S·CaseSource .means (now (source .entry)) .case .pairs) (now (arms .entry))) (V·TimeMeasure .ranking))) ⌝ }
+{
+    let mut times = zeros::<V>(heap, source.end() + 1)?;
+    let mut trials = *arms;
+    Ok(bound.ask(source, &mut trials, times.as_mut_slice()))
 }
 
 /// The message of any source's case.

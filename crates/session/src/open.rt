@@ -14,17 +14,29 @@ ghost use Rattle.graph.specs.Times.{leastTimes, TimesLaw};
 ghost use Rattle.messages.specs.Message.{messageCase, messageFault};
 ghost use Rattle.messages.specs.Named.{ofMessage};
 ghost use Rattle.messages.specs.Told.{passes};
-ghost use Rattle.session.specs.Open.{sizeOf, ArmsChosen, TimesFound};
+ghost use Rattle.bounds.specs.Told.{RankIs};
+ghost use Rattle.trains.specs.Railway.{railwayFault, railwayCase};
+ghost use Rattle.session.specs.Open.{sizeOf, ArmsChosen, RailwayRefused, TimesFound};
+ghost use Rattle.session.specs.declared.open.RailwayRefusal.{RailwayRefusal};
+use super::cases::bound_of;
+use super::cases::message_of;
 use super::cases::rewritten;
 use super::cases::times_of;
+use bounds::Bound;
 use graph::CaseSource;
 use graph::TimeMeasure;
 use messages::MessageFault;
+use railway::Railway;
+use railway::RailwaySource;
+use railway::check_railway;
 use sources::Message;
 use sources::MessageSource;
 use sources::check_message;
 use std::alloc::AllocError;
 use std::alloc::Global;
+use trains::RailwayFault;
+use trains::Step;
+use trains::Train;
 
 /// How large a case is: its last event, its fixed arcs and its pairs.
 #[derive(Clone, Copy)]
@@ -41,6 +53,29 @@ pub enum ArmsFault {
     TooMany,
     /// The arm at this index is not 0, 1 or 2.
     Arm(usize),
+}
+
+/// Why a railway is not taken: its check refuses it, or there is no memory.
+#[derive(Clone, Copy)]
+pub enum RailwayRefusal {
+    Railway(RailwayFault),
+    Memory,
+}
+
+impl From<RailwayFault> for RailwayRefusal as RailwayRefusalFromFault {
+    ghost converts = { λ fault r. r ≡ RailwayRefusal.Railway fault };
+
+    fn from(fault: RailwayFault) -> RailwayRefusal {
+        RailwayRefusal::Railway(fault)
+    }
+}
+
+impl From<AllocError> for RailwayRefusal as RailwayRefusalFromAlloc {
+    ghost converts = { λ _ r. r ≡ RailwayRefusal.Memory };
+
+    fn from(_error: AllocError) -> RailwayRefusal {
+        RailwayRefusal::Memory
+    }
 }
 
 /// A case that was taken, as the message that it came in, and the arms that are chosen of its pairs.
@@ -85,6 +120,23 @@ impl OpenCase {
         })
     }
 
+    /// Takes a railway that its check accepts, with no arm chosen: the open case is the railway's.
+    pub fn of_railway<'a>(
+        heap: Global,
+        trains: &'a [Train],
+        steps: &'a [Step],
+    ) -> Result<OpenCase, RailwayRefusal>
+        ensures { λ r. ⌜ elim r [ Ok o ↦ (railwayFault (now (trains .entry)) (now (steps .entry)) ≡ None) × (messageCase (vec-items (o .message)) ≡ railwayCase (now (trains .entry)) (now (steps .entry))) × (o .arms ≡ replicate 60 0) | Err f ↦ RailwayRefused (railwayFault (now (trains .entry)) (now (steps .entry))) f ] ⌝ }
+    {
+        check_railway(trains, steps)?;
+        let message = message_of(heap, &Railway::over(trains, steps))?;
+        Ok(OpenCase {
+            message,
+            arms: [0; 60],
+        })
+    }
+
+    /// How large the case is.
     pub fn size(&self) -> CaseSize
         ensures { λ r. ⌜ r ≡ sizeOf (messageCase (vec-items (now (self .entry) .message))) ⌝ }
     {
@@ -126,6 +178,22 @@ impl OpenCase {
         ensures law { λ _. ⌜ TimesLaw (V·TimeMeasure .ranking) (messageCase (vec-items (now (self .entry) .message))) (selectionOf (messageCase (vec-items (now (self .entry) .message)) .pairs) (now (self .entry) .arms)) ⌝ }
     {
         times_of(heap, &Message::over(self.message.as_slice()), &self.arms)
+    }
+
+    /// What a bound answers about the case with the chosen arms.
+    pub fn bound<V: TimeMeasure, B: Bound>(
+        &self,
+        heap: Global,
+        bound: &B,
+    ) -> Result<Option<V>, AllocError>
+        ensures { λ r. ⌜ made r (λ o. RankIs (V·TimeMeasure .rank) o (B·Bound .meaning (now (bound .entry)) (messageCase (vec-items (now (self .entry) .message))) (selectionOf (messageCase (vec-items (now (self .entry) .message)) .pairs) (now (self .entry) .arms)) (V·TimeMeasure .ranking))) ⌝ }
+    {
+        bound_of(
+            heap,
+            &Message::over(self.message.as_slice()),
+            &self.arms,
+            bound,
+        )
     }
 
     /// The case written as a message: byte for byte the message that was taken.

@@ -5,6 +5,7 @@ mod faults;
 mod kind;
 mod laws;
 mod train;
+mod words;
 
 pub use faults::RailwayFault;
 pub use faults::RailwayFaultDebug;
@@ -19,3 +20,4 @@ pub use train::StepPartialEq;
 pub use train::Train;
 pub use train::TrainDebug;
 pub use train::TrainPartialEq;
+pub use words::RailwayFaultDisplay;
