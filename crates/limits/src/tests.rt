@@ -54,7 +54,14 @@ fn times<'a>(end: usize, fixed: &'a [Arc], pairs: &'a [Pair], arm: u8) -> [i64; 
         Ok(found) => {
             let [a, b, c, d, e, f] = times;
             if found {
-                [a.value(), b.value(), c.value(), d.value(), e.value(), f.value()]
+                [
+                    a.value(),
+                    b.value(),
+                    c.value(),
+                    d.value(),
+                    e.value(),
+                    f.value(),
+                ]
             } else {
                 [-1; 6]
             }
@@ -130,7 +137,10 @@ fn limits_of_sizes() -> Result<(), Fail> {
     check_eq(of_case(check_listed(0, &[], &[])), (2, 3, 0))?;
     check_eq(of_case(check_listed(512, &arcs, &pairs)), (2, 3, 0))?;
     check_eq(of_case(check_listed(511, &arcs, &pairs)), (2, 3, 1))?;
-    check_eq(of_case(check_listed(511, &arcs[0..2048], &pairs)), (2, 3, 2))?;
+    check_eq(
+        of_case(check_listed(511, &arcs[0..2048], &pairs)),
+        (2, 3, 2),
+    )?;
     check_eq(
         of_case(check_listed(1, &arcs[0..2048], &pairs[0..60])),
         (0, 0, 0),

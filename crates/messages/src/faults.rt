@@ -2,6 +2,8 @@ ghost use mathlib.Core.Path.{_≡_};
 ghost use Rattle.messages.specs.Named.{ofCase, ofMessage};
 ghost use Rattle.messages.specs.declared.faults.MessageFault.{MessageFault};
 
+const CASE_LAYER: u8 = 2;
+
 /// Why a case is refused. An arc is named by its number: the fixed arcs first, then each pair's arms.
 #[derive(Clone, Copy, Debug, PartialEq, Eq)]
 pub enum CaseFault {
@@ -22,7 +24,7 @@ impl CaseFault {
     pub fn layer(self) -> u8
         ensures { λ r. ⌜ r ≡ ofCase self .layer ⌝ }
     {
-        2
+        CASE_LAYER
     }
 
     /// What is wrong, by its number.
