@@ -93,6 +93,7 @@ pub record Infeasible (r : Ranking) (c : Case) (s : Selection) : Type 0 where
   pub no-timetable : NoTimes r c s
   pub cycle : PositiveCycle r c s
 
+-- least times, or why there are none
 abbrev pub TimesMean : Ranking → Case → Selection → Option (List ℕ) → Type 0
 TimesMean r c s None = Infeasible r c s
 TimesMean r c s (Some ts) = Feasible r c s ts

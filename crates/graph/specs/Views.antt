@@ -30,6 +30,7 @@ arcFound (Some a) = Some (arcOf a)
 abbrev pub armOf : ℕ → Pair → Option Arc
 armOf a p = cond (eqb a 1) (Some (p .first)) (cond (eqb a 2) (Some (p .second)) None)
 
+-- arm a of a pair that was looked for
 abbrev pub armFound : ℕ → Option Pair → Option Arc
 armFound a None = None
 armFound a (Some p) = armOf a p

@@ -30,7 +30,7 @@ fn zeros<V: TimeMeasure>(heap: Global, count: usize) -> Result<Vec<V>, AllocErro
 }
 
 /// The least times of a selection of any source's case, one for each event, or none.
-pub fn times_of<S: CaseSource, V: TimeMeasure>(
+pub(crate) fn times_of<S: CaseSource, V: TimeMeasure>(
     heap: Global,
     source: &S,
     arms: &[u8; 60],
@@ -46,7 +46,7 @@ pub fn times_of<S: CaseSource, V: TimeMeasure>(
 }
 
 /// What a bound answers about a selection of any source's case: a value, or none.
-pub fn bound_of<S: CaseSource, V: TimeMeasure, B: Bound>(
+pub(crate) fn bound_of<S: CaseSource, V: TimeMeasure, B: Bound>(
     heap: Global,
     source: &S,
     arms: &[u8; 60],
@@ -60,7 +60,7 @@ pub fn bound_of<S: CaseSource, V: TimeMeasure, B: Bound>(
 }
 
 /// The message of any source's case.
-pub fn message_of<S: CaseSource>(heap: Global, source: &S) -> Result<Vec<u8>, AllocError>
+pub(crate) fn message_of<S: CaseSource>(heap: Global, source: &S) -> Result<Vec<u8>, AllocError>
     ensures { λ r. ⌜ made r (λ v. vec-items v ≡ message (S·CaseSource .means (now (source .entry)) .case)) ⌝ }
 {
     let needed = 10 + 9 * source.fixed_count() + 18 * source.pair_count();
@@ -72,7 +72,7 @@ pub fn message_of<S: CaseSource>(heap: Global, source: &S) -> Result<Vec<u8>, Al
 }
 
 /// A message, written again: an accepted one byte for byte, and in the place of a refused one that of the empty case.
-pub fn rewritten(heap: Global, bytes: &[u8]) -> Result<Vec<u8>, AllocError>
+pub(crate) fn rewritten(heap: Global, bytes: &[u8]) -> Result<Vec<u8>, AllocError>
     ensures written { λ r. ⌜ made r (λ v. vec-items v ≡ message (messageCase (now (bytes .entry)))) ⌝ }
     ensures same { λ r. ⌜ (messageFault (now (bytes .entry)) ≡ None → made r (λ v. vec-items v ≡ now (bytes .entry))) ⌝ }
 {

@@ -3,10 +3,6 @@
 mod cases;
 mod open;
 
-pub use cases::bound_of;
-pub use cases::message_of;
-pub use cases::rewritten;
-pub use cases::times_of;
 pub use open::ArmsFault;
 pub use open::CaseSize;
 pub use open::OpenCase;

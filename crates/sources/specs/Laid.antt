@@ -5,6 +5,7 @@ use Prim.Native.Nat.{ℕ, _+_, _*_, _≤_}
 use lib.ListN.{length, getD}
 use Rattle.messages.specs.Message.{u16-at}
 
+-- the counts are within their limits, and the bytes as many as they ask for
 pub record LaidOut (bs : List ℕ) : Type 0 where
   pub few-fixed : u16-at bs 7 ≤ 2048
   pub few-pairs : getD bs 9 0 ≤ 60
