@@ -1,0 +1,7 @@
+use lib.ListN.{length, take}
+use Rattle.planner.specs.View.{callsOf}
+use Rattle.planner.proofs.Making.{Replayed}
+use Rattle.planner.proofs.runs.replay.Given as given
+
+abbrev pub Inv-loop-request : given.InvT-loop-request
+Inv-loop-request g l = Replayed (λ s. g .S·CaseSource .means s .case) (g .V·TimeMeasure .rank) (g .V·TimeMeasure .ranking) (g .B·Bound .meaning) (l .entry .planner .source) (l .entry .planner .bound) (callsOf (length (l .entry .times)) (take (l .request-index) (l .requests))) (l .planner)
