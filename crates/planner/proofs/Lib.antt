@@ -6,3 +6,4 @@ pub mod Looks
 pub mod Walked
 pub mod Lowest
 pub mod Planning
+pub mod Leaving

@@ -4,6 +4,7 @@
 mod calls;
 mod moves;
 mod planned;
+mod questions;
 mod runs;
 mod table;
 mod walk;

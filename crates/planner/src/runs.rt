@@ -1,8 +1,12 @@
 //! Calls in one go.
 ghost use mathlib.Core.Path.{_≡_};
+ghost use mathlib.Core.List.{[], _∷_};
 ghost use lib.ListN.{length};
+ghost use Rattle.std.specs.declared.option.Option.the-variants.{None};
+ghost use Rattle.search.specs.Search.{opened};
 ghost use Rattle.search.specs.Sound.{reached, Lawful};
 ghost use Rattle.search.specs.Named.{plannerTold};
+ghost use Rattle.planner.specs.Left.{lastShown, TimesLeft};
 ghost use Rattle.planner.specs.View.{view, callOf, callsOf, Made};
 use crate::calls::Planner;
 use bounds::Bound;
@@ -27,7 +31,8 @@ fn make<S: CaseSource + Copy, V: TimeMeasure, B: Bound>(
     request: Request,
     times: &mut [V],
 ) -> Result<(), PlannerFault>
-    ensures { λ r. ⌜ Made (λ s. S·CaseSource .means s .case) (V·TimeMeasure .rank) (V·TimeMeasure .ranking) (B·Bound .meaning) (now (planner .entry)) (now (planner .exit)) (callOf (length (now (times .entry))) request) (plannerTold r) ⌝ }
+    ensures left { λ _. ⌜ TimesLeft (V·TimeMeasure .rank) (S·CaseSource .means (now (planner .entry) .source) .case) (lastShown (S·CaseSource .means (now (planner .entry) .source) .case) (V·TimeMeasure .ranking) (B·Bound .meaning (now (planner .entry) .bound)) None (view (λ s. S·CaseSource .means s .case) (V·TimeMeasure .rank) (now (planner .entry))) (callOf (length (now (times .entry))) request ∷ [])) (now (times .entry)) (now (times .exit)) ⌝ }
+    ensures made { λ r. ⌜ Made (λ s. S·CaseSource .means s .case) (V·TimeMeasure .rank) (V·TimeMeasure .ranking) (B·Bound .meaning) (now (planner .entry)) (now (planner .exit)) (callOf (length (now (times .entry))) request) (plannerTold r) ⌝ }
 {
     match request {
         Request::Hold(pair, arm) => planner.hold(pair, arm),
@@ -40,7 +45,7 @@ fn make<S: CaseSource + Copy, V: TimeMeasure, B: Bound>(
 }
 
 /// Opens a planner and makes the calls that are asked for, one after another, whether they are taken or refused. The
-/// planner that it answers tells what is then on show.
+/// planner that it answers tells what is then on show, and the times hold what the last search that was taken left.
 pub fn replay<S: CaseSource + Copy, V: TimeMeasure, B: Bound>(
     source: S,
     bound: B,
@@ -48,6 +53,7 @@ pub fn replay<S: CaseSource + Copy, V: TimeMeasure, B: Bound>(
     times: &mut [V],
 ) -> Planner<S, V, B>
     ensures state { λ r. ⌜ view (λ s. S·CaseSource .means s .case) (V·TimeMeasure .rank) r ≡ reached (S·CaseSource .means source .case) (V·TimeMeasure .ranking) (B·Bound .meaning bound) (callsOf (length (now (times .entry))) (now (requests .entry))) ⌝ }
+    ensures left { λ _. ⌜ TimesLeft (V·TimeMeasure .rank) (S·CaseSource .means source .case) (lastShown (S·CaseSource .means source .case) (V·TimeMeasure .ranking) (B·Bound .meaning bound) None (opened (S·CaseSource .means source .case)) (callsOf (length (now (times .entry))) (now (requests .entry)))) (now (times .entry)) (now (times .exit)) ⌝ }
     ensures lawful { λ r. ⌜ Lawful (S·CaseSource .means source .case) (V·TimeMeasure .ranking) (B·Bound .meaning bound) (callsOf (length (now (times .entry))) (now (requests .entry))) (view (λ s. S·CaseSource .means s .case) (V·TimeMeasure .rank) r) ⌝ }
 {
     let mut planner = Planner::open(source, bound);
