@@ -1,0 +1,4 @@
+pub mod Room
+pub mod View
+pub mod Left
+pub mod Message
