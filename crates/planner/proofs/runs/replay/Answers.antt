@@ -11,11 +11,11 @@ use Rattle.planner.proofs.runs.replay.Needs as need
 pub loop-request-again : need.loop-request-again
 loop-request-again g c = (
   replayed-step (λ s. g .S·CaseSource .means s .case) (g .V·TimeMeasure .rank) (g .V·TimeMeasure .ranking) (g .B·Bound .meaning) (c .open-planner .result .source) (c .open-planner .result .bound)
-  (c .args .requests .now) (c .loop-request .request-index) (length (c .args .times .now)) (length (c .loop-request .times)) (Hold 0 0) (plannerTold (c .make .result)) (c .loop-request .planner) (c .make .last .planner)
-  (c .loop-request-test .taken) (c .loop-request .kept .times) (c .make .ensures .made) (c .loop-request .inv .0),
+      (c .args .requests .now) (c .loop-request .request-index) (length (c .args .times .now)) (length (c .loop-request .times)) (Hold 0 0) (plannerTold (c .make .result)) (c .loop-request .planner) (c .make .last .planner)
+      (c .loop-request-test .taken) (c .loop-request .kept .times) (c .make .ensures .made) (c .loop-request .inv .0),
   left-step (λ s. g .S·CaseSource .means s .case) (g .V·TimeMeasure .rank) (g .V·TimeMeasure .ranking) (g .B·Bound .meaning) (c .open-planner .result .source) (c .open-planner .result .bound)
-  (c .args .requests .now) (c .loop-request .request-index) (length (c .args .times .now)) (length (c .loop-request .times)) (Hold 0 0) (c .loop-request .planner) (c .args .times .now) (c .loop-request .times) (c .make .last .times)
-  (c .loop-request-test .taken) (c .loop-request .kept .times) (c .loop-request .inv .0) (c .make .ensures .left) (c .loop-request .inv .1),
+      (c .args .requests .now) (c .loop-request .request-index) (length (c .args .times .now)) (length (c .loop-request .times)) (Hold 0 0) (c .loop-request .planner) (c .args .times .now) (c .loop-request .times) (c .make .last .times)
+      (c .loop-request-test .taken) (c .loop-request .kept .times) (c .loop-request .inv .0) (c .make .ensures .left) (c .loop-request .inv .1),
 )
 
 pub returns : need.returns
