@@ -33,7 +33,7 @@ fn joined(holds: &[u8; 60], node: &[u8; 60], depth: usize) -> [u8; 60]
 }
 
 /// How many of the first pairs are not held.
-pub fn free(holds: &[u8; 60], pairs: usize) -> usize
+pub(crate) fn free(holds: &[u8; 60], pairs: usize) -> usize
     requires { ⌜ pairs ≤ 60 ⌝ }
     ensures { λ r. ⌜ r ≡ Search.free (take pairs (now (holds .entry))) ⌝ }
 {
@@ -62,7 +62,7 @@ fn turn(node: &mut [u8; 60], depth: usize) -> Option<usize>
 
 impl<V: TimeMeasure> Table<V> {
     /// A table that holds these arms and has searched nothing.
-    pub fn fresh(holds: [u8; 60]) -> Table<V>
+    pub(crate) fn fresh(holds: [u8; 60]) -> Table<V>
         requires { ⌜ small holds ≡ true ⌝ }
         ensures { λ r. ⌜ ((n : ℕ) → tableOf (V·TimeMeasure .rank) n r ≡ Search.fresh (take n holds)) ⌝ }
     {
@@ -78,14 +78,14 @@ impl<V: TimeMeasure> Table<V> {
     }
 
     /// The held arms and those of the next node.
-    pub fn arms(&self) -> [u8; 60]
+    pub(crate) fn arms(&self) -> [u8; 60]
         ensures { λ r. ⌜ r ≡ Search.joined (now (self .entry) .holds) (take (now (self .entry) .depth) (now (self .entry) .next)) ⌝ }
     {
         joined(&self.holds, &self.next, self.depth)
     }
 
     /// The held arms and those of the node that waits at an index: the next node up to there, with a second arm instead.
-    pub fn turned_arms(&self, at: usize) -> [u8; 60]
+    pub(crate) fn turned_arms(&self, at: usize) -> [u8; 60]
         requires { ⌜ at < now self .depth ⌝ }
         ensures { λ r. ⌜ r ≡ Search.joined (now (self .entry) .holds) (take at (now (self .entry) .next) ++ (2 ∷ [])) ⌝ }
     {
@@ -95,7 +95,7 @@ impl<V: TimeMeasure> Table<V> {
     }
 
     /// Goes on to the node that takes the first arm of the next free pair.
-    pub fn branch(&mut self)
+    pub(crate) fn branch(&mut self)
         requires deeper { ⌜ now self .depth < 60 ⌝ }
         requires going { ⌜ now self .finished ≡ false ⌝ }
         ensures { λ _. ⌜ ((n : ℕ) → tableOf (V·TimeMeasure .rank) n (now (self .exit)) ≡ movedTo (tableOf (V·TimeMeasure .rank) n (now (self .entry))) (planOf (V·TimeMeasure .rank) n (now (self .entry) .plan)) (Some (take (now (self .entry) .depth) (now (self .entry) .next) ++ (1 ∷ [])))) ⌝ }
@@ -106,7 +106,7 @@ impl<V: TimeMeasure> Table<V> {
     }
 
     /// Goes on to the node after this one and all below it, or finishes.
-    pub fn leave(&mut self)
+    pub(crate) fn leave(&mut self)
         requires { ⌜ now self .finished ≡ false ⌝ }
         ensures { λ _. ⌜ ((n : ℕ) → tableOf (V·TimeMeasure .rank) n (now (self .exit)) ≡ movedTo (tableOf (V·TimeMeasure .rank) n (now (self .entry))) (planOf (V·TimeMeasure .rank) n (now (self .entry) .plan)) (after (take (now (self .entry) .depth) (now (self .entry) .next)))) ⌝ }
     {
@@ -125,7 +125,7 @@ impl<V: TimeMeasure> Table<V> {
     }
 
     /// The plan's delay.
-    pub fn plan_delay(&self) -> Option<V>
+    pub(crate) fn plan_delay(&self) -> Option<V>
         ensures { λ r. ⌜ ((n : ℕ) → RankIs (V·TimeMeasure .rank) r (planDelay (planOf (V·TimeMeasure .rank) n (now (self .entry) .plan)))) ⌝ }
     {
         match self.plan {
@@ -135,7 +135,7 @@ impl<V: TimeMeasure> Table<V> {
     }
 
     /// Whether a node with this bound is cut: the bound is none, or not below the plan's delay.
-    pub fn is_cut(&self, bound: Option<V>) -> bool
+    pub(crate) fn is_cut(&self, bound: Option<V>) -> bool
         ensures { λ r. ⌜ ((n : ℕ) (z : Option ℤ) → RankIs (V·TimeMeasure .rank) bound z → r ≡ cuts z (planOf (V·TimeMeasure .rank) n (now (self .entry) .plan))) ⌝ }
     {
         match (bound, self.plan_delay()) {
@@ -156,7 +156,7 @@ impl<V: TimeMeasure> Table<V> {
     }
 
     /// Takes a full selection with this delay for the plan, unless there is one with a delay that is as small.
-    pub fn improve(&mut self, arms: [u8; 60], delay: V)
+    pub(crate) fn improve(&mut self, arms: [u8; 60], delay: V)
         requires { ⌜ small arms ≡ true ⌝ }
         ensures going { λ _. ⌜ now (self .exit) .finished ≡ now (self .entry) .finished ⌝ }
         ensures plan { λ _. ⌜ ((n e : ℕ) (ts : List ℕ) → V·TimeMeasure .rank delay ≡ pos (getD ts e 0) → tableOf (V·TimeMeasure .rank) n (now (self .exit)) ≡ replanned (tableOf (V·TimeMeasure .rank) n (now (self .entry))) (better (take n arms) e (Some ts) (planOf (V·TimeMeasure .rank) n (now (self .entry) .plan)))) ⌝ }

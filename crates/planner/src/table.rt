@@ -6,7 +6,7 @@ ghost use lib.ListN.{length, take};
 ghost use Rattle.planner.specs.Room.{room, left, small};
 
 /// A full selection and the delay of its least times.
-pub struct Plan<V> {
+pub(crate) struct Plan<V> {
     pub arms: [u8; 60],
     pub delay: V,
     ghost arms_small: { small arms ≡ true },
@@ -14,7 +14,7 @@ pub struct Plan<V> {
 }
 
 /// The held arms, the node to examine next, and what is on show. The node's arms are the first `depth` of `next`.
-pub struct Table<V> {
+pub(crate) struct Table<V> {
     pub holds: [u8; 60],
     pub next: [u8; 60],
     pub depth: usize,

@@ -78,7 +78,7 @@ fn examine<S: CaseSource, V: TimeMeasure, B: Bound>(
 }
 
 /// Examines nodes until the search has finished, as many as the budget says at the most, and answers how many.
-pub fn walk<S: CaseSource, V: TimeMeasure, B: Bound>(
+pub(crate) fn walk<S: CaseSource, V: TimeMeasure, B: Bound>(
     source: &S,
     bound: &B,
     budget: u64,
@@ -140,7 +140,7 @@ fn settled<V: TimeMeasure>(lower: V, delay: Option<V>) -> V
 }
 
 /// The lower bound that is on show after a search.
-pub fn lower_after<S: CaseSource, V: TimeMeasure, B: Bound>(
+pub(crate) fn lower_after<S: CaseSource, V: TimeMeasure, B: Bound>(
     source: &S,
     bound: &B,
     table: &Table<V>,
@@ -168,7 +168,7 @@ fn clear<V: TimeMeasure>(count: usize, times: &mut [V])
 }
 
 /// Leaves the plan's least times in the first places, one for each event, or zeros where there is no plan.
-pub fn show<S: CaseSource, V: TimeMeasure>(source: &S, table: &Table<V>, times: &mut [V])
+pub(crate) fn show<S: CaseSource, V: TimeMeasure>(source: &S, table: &Table<V>, times: &mut [V])
     requires { ⌜ S·CaseSource .means (now source) .case .end < length (now times) ⌝ }
     ensures times { λ _. ⌜ Shows (V·TimeMeasure .rank) (now (times .exit)) (planTimes (S·CaseSource .means (now (source .entry)) .case) (V·TimeMeasure .ranking) (planOf (V·TimeMeasure .rank) (length (S·CaseSource .means (now (source .entry)) .case .pairs)) (now (table .entry) .plan))) ⌝ }
     ensures behind { λ _. ⌜ drop (S·CaseSource .means (now (source .entry)) .case .end + 1) (now (times .exit)) ≡ drop (S·CaseSource .means (now (source .entry)) .case .end + 1) (now (times .entry)) ⌝ }
