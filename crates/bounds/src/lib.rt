@@ -1,6 +1,8 @@
 //! Bounds: what a partial selection must still cost. A bound is one struct, its meaning, and the law that it is at most
 //! the delay of every timetable that keeps the selection.
 
+#![tactic(auto)]
+
 mod ahead;
 mod bound;
 mod compare;

@@ -1,6 +1,8 @@
 //! The alternative graph: what a case is, where its arcs come from, what times are told in, and the least times of a
 //! selection, worked out by one text for every source and every measure.
 
+#![tactic(auto)]
+
 mod arc;
 mod measure;
 mod source;

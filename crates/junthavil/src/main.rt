@@ -1,5 +1,7 @@
 //! A session on text lines, from standard input or from a file: one command a line, each answered in fixed words.
 
+#![tactic(auto)]
+
 mod answers;
 mod command;
 mod lines;

@@ -1,5 +1,7 @@
 //! What times are told in: whole seconds, or seconds with a place within the second.
 
+#![tactic(auto)]
+
 mod ordered;
 mod seconds;
 

@@ -1,6 +1,8 @@
 //! The one search: a depth-first branch and bound over the pairs of any source, in any measure of time, with any lower
 //! bound. It goes on from call to call, and arms can be held and released in between.
 
+#![tactic(auto)]
+
 mod calls;
 mod moves;
 mod questions;

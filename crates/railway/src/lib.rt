@@ -1,6 +1,8 @@
 //! A railway as a source of a case: its trains and their steps, checked, mean one case, with each answer looked up in
 //! tables that are made once.
 
+#![tactic(auto)]
+
 mod check;
 mod fixed;
 mod pairs;

@@ -1,4 +1,6 @@
 //! Tests of railways on examples: both worked ones, and every limit on both sides.
 
+#![tactic(auto)]
+
 #[cfg(test)]
 mod tests;

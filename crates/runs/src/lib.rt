@@ -1,5 +1,7 @@
 //! What is planned in one call: a list of calls of a planner, and a message.
 
+#![tactic(auto)]
+
 mod planned;
 mod requests;
 

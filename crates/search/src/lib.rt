@@ -2,6 +2,8 @@
 //! is cut into searches with a budget, and in which arms can be held and released. And the faults by which its calls are
 //! refused.
 
+#![tactic(auto)]
+
 mod examples;
 mod faults;
 mod laws;

@@ -1,6 +1,8 @@
 //! Where cases come from: records in the caller's memory, or a message of bytes. Each source has a check, and made over
 //! matter that its check refuses it means the empty case. Any source can be written as a message.
 
+#![tactic(auto)]
+
 mod check;
 mod layout;
 mod listed;
