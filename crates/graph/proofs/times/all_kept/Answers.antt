@@ -3,7 +3,7 @@ use Rattle.graph.specs.Views.{arc_of}
 use Rattle.graph.proofs.Placed.{place_within}
 use Rattle.graph.proofs.Rounding.{raisable_now, kept_skip, kept_more, kept_all_lem, kept_fails}
 use Rattle.graph.proofs.times.all_kept.Goals as goal
-use Rattle.graph.proofs.times.all_kept.Goals.{in-Some+else-not-is-kept, in-default}
+use Rattle.graph.proofs.times.all_kept.Goals.{in-Some+else-not-is_kept, in_default}
 
 pub is-kept-requires : goal.is-kept-requires
 is-kept-requires g c =
@@ -24,13 +24,13 @@ pub loop-at-preserved : goal.loop-at-preserved
 loop-at-preserved g c ts d s =
     let m = (g.S.CaseSource.means c.args.source.now).case in
     let h : c.loop-at.at < length m.fixed + length m.pairs = omega arith in
-    elim c.match-arc-at.branch [
-      | in-Some+else-not-is-kept w ↦
+    elim c.match-arc_at.branch [
+      | in-Some+else-not-is_kept w ↦
           let a = arc_of w.in-Some.arc in
           let k = raisable_now g.V.TimeMeasure.ranking g.met.V.TimeMeasure.bounded m (g.S.CaseSource.means c.args.source.now).within c.args.arms.now ts c.loop-at.at a d h w.in-Some.ensures in
           kept_more g.V.TimeMeasure.ranking g.met.V.TimeMeasure.bounded m (g.S.CaseSource.means c.args.source.now).within c.args.arms.now ts c.loop-at.at a h w.in-Some.ensures
           (sym (w.is-kept.ensures m.end ts k s) ∙ w.if-not-is-kept.false) (c.loop-at.invariant ts d s)
-      | in-default w ↦
+      | in_default w ↦
           kept_skip g.V.TimeMeasure.ranking g.met.V.TimeMeasure.bounded m (g.S.CaseSource.means c.args.source.now).within c.args.arms.now ts c.loop-at.at h w.in-default.ensures (c.loop-at.invariant ts d s)
     ]
 

@@ -23,7 +23,7 @@ returns-then-not-found g c =
     let m = g.S.CaseSource.means c.args.source.now in
     let r = g.V.TimeMeasure.ranking in
     let arms = c.args.arms.now in
-    let looked = c.are-least-found.ensures c.settle.ensures.raised in
+    let looked = c.are_least-found.ensures c.settle.ensures.raised in
     let zeros = subst (λ (n : ℕ). Shows g.V.TimeMeasure.rank c.reset-then-not-found.new.times (replicate (n + 1) 0)) c.end-end.ensures c.reset-then-not-found.ensures.zeros in
     record {
       told = record {
@@ -41,7 +41,7 @@ returns-else-not-found g c =
     let m = g.S.CaseSource.means c.args.source.now in
     let r = g.V.TimeMeasure.ranking in
     let arms = c.args.arms.now in
-    let looked = c.are-least-found.ensures c.settle.ensures.raised in
+    let looked = c.are_least-found.ensures c.settle.ensures.raised in
     record {
       told = record {
         answer = λ h. ap Ok looked;

@@ -4,7 +4,7 @@ use Rattle.graph.specs.Views.{arc_of}
 use Rattle.graph.proofs.Placed.{place_within}
 use Rattle.graph.proofs.Rounding.{round_start, round_skip, round_raise, round_all}
 use Rattle.graph.proofs.times.raise_round.Goals as goal
-use Rattle.graph.proofs.times.raise_round.Goals.{in-Some+then-raise-by, in-Some+else-raise-by, in-default}
+use Rattle.graph.proofs.times.raise_round.Goals.{in-Some+then-raise_by, in-Some+else-raise_by, in_default}
 
 pub loop-at-init : goal.loop-at-init
 loop-at-init g c = round_start g.V.TimeMeasure.ranking g.met.V.TimeMeasure.bounded (g.S.CaseSource.means c.args.source.now).case (g.S.CaseSource.means c.args.source.now).within c.args.arms.now g.V.TimeMeasure.rank c.args.times.now
@@ -21,15 +21,15 @@ loop-at-preserved g c =
     let m = (g.S.CaseSource.means c.args.source.now).case in
     let h : c.loop-at.at < length m.fixed + length m.pairs = omega arith in
     elim c.match-arc-at.branch [
-      | in-Some+then-raise-by w ↦
+      | in-Some+then-raise_by w ↦
           round_raise g.V.TimeMeasure.ranking g.met.V.TimeMeasure.bounded m (g.S.CaseSource.means c.args.source.now).within c.args.arms.now g.V.TimeMeasure.rank c.args.times.now
           c.loop-at.times w.raise-by.new.times c.match-arc-at.times c.loop-at.changed c.match-arc-at.changed w.raise-by.result c.loop-at.at (arc_of w.in-Some.arc) h w.in-Some.ensures
           w.raise-by.ensures.raised w.raise-by.ensures.same w.raise-by.ensures.behind w.times-is (λ z. absurd (true≢false (sym w.changed-is ∙ z))) c.loop-at.invariant
-      | in-Some+else-raise-by w ↦
+      | in-Some+else-raise_by w ↦
           round_raise g.V.TimeMeasure.ranking g.met.V.TimeMeasure.bounded m (g.S.CaseSource.means c.args.source.now).within c.args.arms.now g.V.TimeMeasure.rank c.args.times.now
           c.loop-at.times w.raise-by.new.times c.match-arc-at.times c.loop-at.changed c.match-arc-at.changed w.raise-by.result c.loop-at.at (arc_of w.in-Some.arc) h w.in-Some.ensures
           w.raise-by.ensures.raised w.raise-by.ensures.same w.raise-by.ensures.behind w.times-is (λ z. (sym w.changed-is ∙ z, w.if-raise-by.false)) c.loop-at.invariant
-      | in-default w ↦
+      | in_default w ↦
           round_skip g.V.TimeMeasure.ranking g.met.V.TimeMeasure.bounded m (g.S.CaseSource.means c.args.source.now).within c.args.arms.now g.V.TimeMeasure.rank c.args.times.now
           c.loop-at.times c.match-arc-at.times c.loop-at.changed c.match-arc-at.changed c.loop-at.at h w.in-default.ensures w.times-is w.changed-is c.loop-at.invariant
     ]

@@ -17,12 +17,12 @@ returns-then-not-raise-round g c =
 pub loop-round-preserved : goal.loop-round-preserved
 loop-round-preserved g c =
     let m = (g.S.CaseSource.means c.args.source.now).case in
-    let h : c.loop-round.-round < m.end = omega arith in
-    settle_more g.V.TimeMeasure.ranking g.met.V.TimeMeasure.bounded m (g.S.CaseSource.means c.args.source.now).within c.args.arms.now g.V.TimeMeasure.rank c.args.times.now c.loop-round.times c.raise-round.new.times c.loop-round.-round h c.raise-round.ensures.raised c.raise-round.ensures.behind c.loop-round.invariant
+    let h : c.loop-round._round < m.end = omega arith in
+    settle_more g.V.TimeMeasure.ranking g.met.V.TimeMeasure.bounded m (g.S.CaseSource.means c.args.source.now).within c.args.arms.now g.V.TimeMeasure.rank c.args.times.now c.loop-round.times c.raise_round.new.times c.loop-round._round h c.raise_round.ensures.raised c.raise_round.ensures.behind c.loop-round.invariant
 
 pub returns : goal.returns
 returns g c =
     let m = (g.S.CaseSource.means c.args.source.now).case in
-    let e : c.loop-round.-round ≡ m.end = omega arith in
-    let d = settle_all g.V.TimeMeasure.ranking g.met.V.TimeMeasure.bounded m (g.S.CaseSource.means c.args.source.now).within c.args.arms.now g.V.TimeMeasure.rank c.args.times.now c.loop-round.times c.loop-round.-round e c.loop-round.invariant in
+    let e : c.loop-round._round ≡ m.end = omega arith in
+    let d = settle_all g.V.TimeMeasure.ranking g.met.V.TimeMeasure.bounded m (g.S.CaseSource.means c.args.source.now).within c.args.arms.now g.V.TimeMeasure.rank c.args.times.now c.loop-round.times c.loop-round._round e c.loop-round.invariant in
     record { raised = d.shown; behind = d.behind }
