@@ -6,5 +6,5 @@ use Rattle.bounds.proofs.ahead.with_either.Goals as goal
 pub returns : goal.returns
 returns g c =
     asked_both g.V.TimeMeasure.rank g.V.TimeMeasure.ranking (g.S.CaseSource.means c.args.source.now).case smaller refl (with_arm c.args.pair 1) (with_arm c.args.pair 2)
-    c.args.arms.now c.with-arm-first.new.arms c.with-arm-second.new.arms c.args.times.now c.with-arm-first.new.times c.with-arm-second.new.times c.with-arm-first.result c.with-arm-second.result c.earlier.result
-    c.with-arm-first.auto.times c.earlier.ensures c.with-arm-first.ensures c.with-arm-second.ensures
+    c.args.arms.now c.with_arm-first.new.arms c.with_arm-second.new.arms c.args.times.now c.with_arm-first.new.times c.with_arm-second.new.times c.with_arm-first.result c.with_arm-second.result c.earlier.result
+    c.with_arm-first.auto.times c.earlier.ensures c.with_arm-first.ensures c.with_arm-second.ensures

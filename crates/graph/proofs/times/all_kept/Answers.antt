@@ -5,20 +5,20 @@ use Rattle.graph.proofs.Rounding.{raisable_now, kept_skip, kept_more, kept_all_l
 use Rattle.graph.proofs.times.all_kept.Goals as goal
 use Rattle.graph.proofs.times.all_kept.Goals.{in-Some+else-not-is_kept, in_default}
 
-pub is-kept-requires : goal.is-kept-requires
-is-kept-requires g c =
+pub is_kept-requires : goal.is_kept-requires
+is_kept-requires g c =
     let m = (g.S.CaseSource.means c.args.source.now).case in
     let h : c.loop-at.at < length m.fixed + length m.pairs = omega arith in
     let b = place_within m c.args.arms.now c.loop-at.at (arc_of c.in-Some.arc) (g.S.CaseSource.means c.args.source.now).within h c.in-Some.ensures in
     record { from = omega (arith, b.from_known); to = omega (arith, b.to_known) }
 
-pub returns-then-not-is-kept : goal.returns-then-not-is-kept
-returns-then-not-is-kept g c ts d s =
+pub returns-then-not-is_kept : goal.returns-then-not-is_kept
+returns-then-not-is_kept g c ts d s =
     let m = (g.S.CaseSource.means c.args.source.now).case in
     let a = arc_of c.in-Some.arc in
     let h : c.loop-at.at < length m.fixed + length m.pairs = omega arith in
     let k = raisable_now g.V.TimeMeasure.ranking g.met.V.TimeMeasure.bounded m (g.S.CaseSource.means c.args.source.now).within c.args.arms.now ts c.loop-at.at a d h c.in-Some.ensures in
-    sym (kept_fails g.V.TimeMeasure.ranking g.met.V.TimeMeasure.bounded m (g.S.CaseSource.means c.args.source.now).within c.args.arms.now ts c.loop-at.at a h c.in-Some.ensures (sym (c.is-kept.ensures m.end ts k s) ∙ c.if-not-is-kept.true))
+    sym (kept_fails g.V.TimeMeasure.ranking g.met.V.TimeMeasure.bounded m (g.S.CaseSource.means c.args.source.now).within c.args.arms.now ts c.loop-at.at a h c.in-Some.ensures (sym (c.is_kept.ensures m.end ts k s) ∙ c.if-not-is_kept.true))
 
 pub loop-at-preserved : goal.loop-at-preserved
 loop-at-preserved g c ts d s =
@@ -29,9 +29,9 @@ loop-at-preserved g c ts d s =
           let a = arc_of w.in-Some.arc in
           let k = raisable_now g.V.TimeMeasure.ranking g.met.V.TimeMeasure.bounded m (g.S.CaseSource.means c.args.source.now).within c.args.arms.now ts c.loop-at.at a d h w.in-Some.ensures in
           kept_more g.V.TimeMeasure.ranking g.met.V.TimeMeasure.bounded m (g.S.CaseSource.means c.args.source.now).within c.args.arms.now ts c.loop-at.at a h w.in-Some.ensures
-          (sym (w.is-kept.ensures m.end ts k s) ∙ w.if-not-is-kept.false) (c.loop-at.invariant ts d s)
+          (sym (w.is_kept.ensures m.end ts k s) ∙ w.if-not-is_kept.false) (c.loop-at.invariant ts d s)
       | in_default w ↦
-          kept_skip g.V.TimeMeasure.ranking g.met.V.TimeMeasure.bounded m (g.S.CaseSource.means c.args.source.now).within c.args.arms.now ts c.loop-at.at h w.in-default.ensures (c.loop-at.invariant ts d s)
+          kept_skip g.V.TimeMeasure.ranking g.met.V.TimeMeasure.bounded m (g.S.CaseSource.means c.args.source.now).within c.args.arms.now ts c.loop-at.at h w.in_default.ensures (c.loop-at.invariant ts d s)
     ]
 
 pub returns : goal.returns

@@ -7,11 +7,11 @@ loop-round-init g c =
     let m = (g.S.CaseSource.means c.args.source.now).case in
     settle_start g.V.TimeMeasure.ranking g.met.V.TimeMeasure.bounded m (g.S.CaseSource.means c.args.source.now).within c.args.arms.now g.V.TimeMeasure.rank c.args.times.now c.requires.zeros
 
-pub returns-then-not-raise-round : goal.returns-then-not-raise-round
-returns-then-not-raise-round g c =
+pub returns-then-not-raise_round : goal.returns-then-not-raise_round
+returns-then-not-raise_round g c =
     let m = (g.S.CaseSource.means c.args.source.now).case in
     let h : c.loop-round.-round < m.end = omega arith in
-    let d = settle_stop g.V.TimeMeasure.ranking g.met.V.TimeMeasure.bounded m (g.S.CaseSource.means c.args.source.now).within c.args.arms.now g.V.TimeMeasure.rank c.args.times.now c.loop-round.times c.raise-round.new.times c.loop-round.-round h c.raise-round.ensures.raised (c.raise-round.ensures.same c.if-not-raise-round.true) c.loop-round.invariant in
+    let d = settle_stop g.V.TimeMeasure.ranking g.met.V.TimeMeasure.bounded m (g.S.CaseSource.means c.args.source.now).within c.args.arms.now g.V.TimeMeasure.rank c.args.times.now c.loop-round.times c.raise_round.new.times c.loop-round.-round h c.raise_round.ensures.raised (c.raise_round.ensures.same c.if-not-raise_round.true) c.loop-round.invariant in
     record { raised = d.shown; behind = d.behind }
 
 pub loop-round-preserved : goal.loop-round-preserved

@@ -21,18 +21,18 @@ returns-in-Some g c =
       };
     }
 
-pub returns-in-default : goal.returns-in-default
-returns-in-default g c =
+pub returns-in_default : goal.returns-in_default
+returns-in_default g c =
     let m = (g.S.CaseSource.means c.args.source.now).case in
     let rank = g.V.TimeMeasure.rank in
     let r = g.V.TimeMeasure.ranking in
     let s = take (length m.pairs) c.args.arms in
     let w = table_of rank (length m.pairs) c.args.table.now in
-    let f = none_ended rank m.end (least_times r m s) c.in-default.ensures.answer in
+    let f = none_ended rank m.end (least_times r m s) c.in_default.ensures.answer in
     record {
       going = refl;
       stepped = record {
         state = ap (λ (o : Option (List ℕ)). replanned w (better s m.end o w.plan)) (sym f);
-        behind = c.bound-of.ensures.behind;
+        behind = c.bound_of.ensures.behind;
       };
     }

@@ -16,10 +16,10 @@ pub loop-at-preserved : goal.loop-at-preserved
 loop-at-preserved c =
     let ts = c.args.trains.now in
     let ss = c.args.steps.now in
-    let t = c.trip-at-trip.result in
-    let few : c.list-trip-count.result ≤ 18 * (c.loop-at.at + 1) = omega (arith, c.list-trip-count.ensures.count, c.loop-at.invariant.1, c.trip-at-trip.ensures.fits.few) in (
-      fill_add arc_of 216 c.loop-at.table c.list-trip-count.new.table c.loop-at.count c.list-trip-count.result (trip_arcs c.args.end (trip_of ss t)) (all_arcs c.args.end (drop c.loop-at.at (trips 1 ts ss))) (all_arcs c.args.end (drop (c.loop-at.at + 1) (trips 1 ts ss))) _ c.loop-at.invariant.0
-          (arcs_step c.args.end ts ss (trip_of ss t) c.loop-at.at (c.trip-at-trip.ensures.is ss)) c.list-trip-count.array_long (omega (arith, few, c.loop-at-test.true, c.requires.few)) c.list-trip-count.ensures.arcs,
+    let t = c.trip_at-trip.result in
+    let few : c.list_trip-count.result ≤ 18 * (c.loop-at.at + 1) = omega (arith, c.list_trip-count.ensures.count, c.loop-at.invariant.1, c.trip_at-trip.ensures.fits.few) in (
+      fill_add arc_of 216 c.loop-at.table c.list_trip-count.new.table c.loop-at.count c.list_trip-count.result (trip_arcs c.args.end (trip_of ss t)) (all_arcs c.args.end (drop c.loop-at.at (trips 1 ts ss))) (all_arcs c.args.end (drop (c.loop-at.at + 1) (trips 1 ts ss))) _ c.loop-at.invariant.0
+          (arcs_step c.args.end ts ss (trip_of ss t) c.loop-at.at (c.trip_at-trip.ensures.is ss)) c.list_trip-count.array_long (omega (arith, few, c.loop-at-test.true, c.requires.few)) c.list_trip-count.ensures.arcs,
       few,
     )
 

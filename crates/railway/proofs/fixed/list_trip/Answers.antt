@@ -16,7 +16,7 @@ loop-at-init c =
 
 pub loop-at-preserved : goal.loop-at-preserved
 loop-at-preserved c =
-    fill_next arc_of 216 c.loop-at.table (c.args.listed + c.loop-at.at) (c.args.listed + (c.loop-at.at + 1)) c.loop-at.at c.trip-arc.result (trip_arcs c.args.end (trip_of c.args.steps.now c.args.trip)) _ c.loop-at.invariant (omega arith) (omega arith) c.trip-arc.ensures
+    fill_next arc_of 216 c.loop-at.table (c.args.listed + c.loop-at.at) (c.args.listed + (c.loop-at.at + 1)) c.loop-at.at c.trip_arc.result (trip_arcs c.args.end (trip_of c.args.steps.now c.args.trip)) _ c.loop-at.invariant (omega arith) (omega arith) c.trip_arc.ensures
 
 pub returns : goal.returns
 returns c =

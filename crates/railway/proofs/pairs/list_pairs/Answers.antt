@@ -10,16 +10,16 @@ use Rattle.railway.proofs.Meetings.{trips_end, all_step}
 pub loop-at-init : goal.loop-at-init
 loop-at-init c = fill_start pair_of 60 c.args.table.now 0 (all_pairs (drop 0 (trips 1 c.args.trains.now c.args.steps.now))) _ c.told-table (omega arith) refl
 
-pub returns-in-err-count : goal.returns-in-err-count
-returns-in-err-count c =
-    rw c.from-residual.ensures
+pub returns-in_err-count : goal.returns-in_err-count
+returns-in_err-count c =
+    rw c.from_residual.ensures
     (fill_full pair_of 60 c.args.table.now c.loop-at.table 0 c.loop-at.count _ (all_pairs (drop c.loop-at.at (trips 1 c.args.trains.now c.args.steps.now))) (all_pairs (drop (c.loop-at.at + 1) (trips 1 c.args.trains.now c.args.steps.now))) _ c.told-table (omega arith) c.loop-at.invariant
-    (all_step c.args.trains.now c.args.steps.now (trip_of c.args.steps.now c.trip-at-one.result) c.loop-at.at (c.trip-at-one.ensures.is c.args.steps.now)) c.in-err-count.ensures)
+    (all_step c.args.trains.now c.args.steps.now (trip_of c.args.steps.now c.trip_at-one.result) c.loop-at.at (c.trip_at-one.ensures.is c.args.steps.now)) c.in_err-count.ensures)
 
 pub loop-at-preserved : goal.loop-at-preserved
 loop-at-preserved c =
-    fill_add pair_of 60 c.loop-at.table c.list-with.new.table c.loop-at.count c.in-ok-count.count _ (all_pairs (drop c.loop-at.at (trips 1 c.args.trains.now c.args.steps.now))) (all_pairs (drop (c.loop-at.at + 1) (trips 1 c.args.trains.now c.args.steps.now))) _ c.loop-at.invariant
-    (all_step c.args.trains.now c.args.steps.now (trip_of c.args.steps.now c.trip-at-one.result) c.loop-at.at (c.trip-at-one.ensures.is c.args.steps.now)) c.list-with.array_long c.in-ok-count.ensures.0 c.in-ok-count.ensures.1
+    fill_add pair_of 60 c.loop-at.table c.list_with.new.table c.loop-at.count c.in_ok-count.count _ (all_pairs (drop c.loop-at.at (trips 1 c.args.trains.now c.args.steps.now))) (all_pairs (drop (c.loop-at.at + 1) (trips 1 c.args.trains.now c.args.steps.now))) _ c.loop-at.invariant
+    (all_step c.args.trains.now c.args.steps.now (trip_of c.args.steps.now c.trip_at-one.result) c.loop-at.at (c.trip_at-one.ensures.is c.args.steps.now)) c.list_with.array_long c.in_ok-count.ensures.0 c.in_ok-count.ensures.1
 
 pub returns : goal.returns
 returns c = fill_end pair_of 60 c.loop-at.table c.loop-at.count (all_pairs (drop c.loop-at.at (trips 1 c.args.trains.now c.args.steps.now))) _ (pairs_in 0 c.args.table.now) c.loop-at.invariant (ap (all_pairs) (trips_end c.args.trains.now c.args.steps.now c.loop-at.at (omega (arith, c.loop-at-test.false))))

@@ -9,27 +9,27 @@ use Rattle.railway.proofs.Tables.{few_listed}
 pub returns-then-trains-gt12 : goal.returns-then-trains-gt12
 returns-then-trains-gt12 c = record { told = told_many c.args.trains.now c.args.steps.now c.if-trains-gt12.true; listed = tt }
 
-pub returns-in-err-check-trains : goal.returns-in-err-check-trains
-returns-in-err-check-trains c =
-    let p = err_from_is_err_and c.from-residual.result c.from-residual.ensures.1 in
-    rw (p.1, p.2) (record { told = told_train c.args.trains.now c.args.steps.now c.if-trains-gt12.false (of_railway c.in-err-check-trains.field-0.0) c.in-err-check-trains.ensures; listed = tt })
+pub returns-in_err-check_trains : goal.returns-in_err-check_trains
+returns-in_err-check_trains c =
+    let p = err_from_is_err_and c.from_residual.result c.from_residual.ensures.1 in
+    rw (p.1, p.2) (record { told = told_train c.args.trains.now c.args.steps.now c.if-trains-gt12.false (of_railway c.in_err-check_trains.field-0.0) c.in_err-check_trains.ensures; listed = tt })
 
-pub returns-then-steps-step-count : goal.returns-then-steps-step-count
-returns-then-steps-step-count c =
-    record { told = told_long c.args.trains.now c.args.steps.now c.if-trains-gt12.false c.in-ok-check-trains.ensures c.step-count.result c.step-count.ensures c.if-steps-step-count.true; listed = tt }
+pub returns-then-steps-step_count : goal.returns-then-steps-step_count
+returns-then-steps-step_count c =
+    record { told = told_long c.args.trains.now c.args.steps.now c.if-trains-gt12.false c.in_ok-check_trains.ensures c.step_count.result c.step_count.ensures c.if-steps-step_count.true; listed = tt }
 
-pub returns-in-err-check-steps : goal.returns-in-err-check-steps
-returns-in-err-check-steps c =
-    let p = err_from_is_err_and c.from-residual-in-err-check-steps.result c.from-residual-in-err-check-steps.ensures.1 in
-    rw (p.1, p.2) (record { told = told_step c.args.trains.now c.args.steps.now c.if-trains-gt12.false c.in-ok-check-trains.ensures (c.if-steps-step-count.false ∙ c.step-count.ensures) (of_railway c.in-err-check-steps.field-0.0) c.in-err-check-steps.ensures; listed = tt })
+pub returns-in_err-check_steps : goal.returns-in_err-check_steps
+returns-in_err-check_steps c =
+    let p = err_from_is_err_and c.from_residual-in_err-check_steps.result c.from_residual-in_err-check_steps.ensures.1 in
+    rw (p.1, p.2) (record { told = told_step c.args.trains.now c.args.steps.now c.if-trains-gt12.false c.in_ok-check_trains.ensures (c.if-steps-step_count.false ∙ c.step_count.ensures) (of_railway c.in_err-check_steps.field-0.0) c.in_err-check_steps.ensures; listed = tt })
 
 pub returns-in-Some : goal.returns-in-Some
 returns-in-Some c =
     record {
-      told = told_none c.args.trains.now c.args.steps.now c.if-trains-gt12.false c.in-ok-check-trains.ensures (c.if-steps-step-count.false ∙ c.step-count.ensures) c.in-ok-check-steps.ensures (few_listed c.in-Some.count c.list-pairs.new.table (all_pairs (trips 1 c.args.trains.now c.args.steps.now)) c.list-pairs.array_long c.in-Some.ensures.0 c.in-Some.ensures.1);
+      told = told_none c.args.trains.now c.args.steps.now c.if-trains-gt12.false c.in_ok-check_trains.ensures (c.if-steps-step_count.false ∙ c.step_count.ensures) c.in_ok-check_steps.ensures (few_listed c.in-Some.count c.list_pairs.new.table (all_pairs (trips 1 c.args.trains.now c.args.steps.now)) c.list_pairs.array_long c.in-Some.ensures.0 c.in-Some.ensures.1);
       listed = c.in-Some.ensures;
     }
 
 pub returns-in-None : goal.returns-in-None
 returns-in-None c =
-    record { told = told_full c.args.trains.now c.args.steps.now c.if-trains-gt12.false c.in-ok-check-trains.ensures (c.if-steps-step-count.false ∙ c.step-count.ensures) c.in-ok-check-steps.ensures c.in-None.ensures; listed = tt }
+    record { told = told_full c.args.trains.now c.args.steps.now c.if-trains-gt12.false c.in_ok-check_trains.ensures (c.if-steps-step_count.false ∙ c.step_count.ensures) c.in_ok-check_steps.ensures c.in-None.ensures; listed = tt }

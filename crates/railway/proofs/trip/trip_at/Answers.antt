@@ -4,11 +4,11 @@ use Rattle.trains.specs.Railway.{trips, steps_of}
 use Rattle.railway.proofs.trip.trip_at.Goals as goal
 use Rattle.railway.proofs.Trips.{trips_step, trips_found, sum_step, few_steps, early_entry, early_due}
 
-pub overflow-add-first-in-loop-i : goal.overflow-add-first-in-loop-i
-overflow-add-first-in-loop-i c = omega (arith, c.loop-i.invariant.1)
+pub overflow_add-first-in-loop-i : goal.overflow_add-first-in-loop-i
+overflow_add-first-in-loop-i c = omega (arith, c.loop-i.invariant.1)
 
-pub overflow-add-from : goal.overflow-add-from
-overflow-add-from c = omega (arith, c.loop-i.invariant.3)
+pub overflow_add-from : goal.overflow_add-from
+overflow_add-from c = omega (arith, c.loop-i.invariant.3)
 
 pub loop-i-preserved : goal.loop-i-preserved
 loop-i-preserved c =

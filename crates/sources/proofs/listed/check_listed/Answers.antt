@@ -3,4 +3,4 @@ use Rattle.sources.specs.Lists.{listed}
 use Rattle.sources.proofs.listed.check_listed.Goals as goal
 
 pub returns : goal.returns
-returns c = record { told = c.check-case.ensures; law = takes_limits (listed c.args.end c.args.fixed.now c.args.pairs.now) }
+returns c = record { told = c.check_case.ensures; law = takes_limits (listed c.args.end c.args.fixed.now c.args.pairs.now) }

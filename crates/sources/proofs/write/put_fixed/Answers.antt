@@ -5,9 +5,9 @@ use Rattle.sources.proofs.write.put_fixed.Goals as goal
 
 pub loop-number-preserved : goal.loop-number-preserved
 loop-number-preserved g c =
-    fixed_step (g.S.CaseSource.means c.args.source.now).case.fixed c.args.out.now c.loop-number.out c.put-arc.new.out c.loop-number.number (arc_found c.fixed-arc.result) c.fixed-arc.ensures
-    (omega (arith, c.fixed-count-number-end.ensures, c.loop-number-test.true)) c.requires c.loop-number.invariant c.put-arc.ensures
+    fixed_step (g.S.CaseSource.means c.args.source.now).case.fixed c.args.out.now c.loop-number.out c.put_arc.new.out c.loop-number.number (arc_found c.fixed_arc.result) c.fixed_arc.ensures
+    (omega (arith, c.fixed_count-number-end.ensures, c.loop-number-test.true)) c.requires c.loop-number.invariant c.put_arc.ensures
 
 pub returns : goal.returns
 returns g c =
-    fixed_end (g.S.CaseSource.means c.args.source.now).case.fixed c.args.out.now c.loop-number.out c.loop-number.number (omega (arith, c.fixed-count-number-end.ensures, c.loop-number-test.false)) c.loop-number.invariant
+    fixed_end (g.S.CaseSource.means c.args.source.now).case.fixed c.args.out.now c.loop-number.out c.loop-number.number (omega (arith, c.fixed_count-number-end.ensures, c.loop-number-test.false)) c.loop-number.invariant

@@ -8,10 +8,10 @@ loop-pair-init g c = sym (put_nothing c.args.out.now c.args.from)
 
 pub loop-pair-preserved : goal.loop-pair-preserved
 loop-pair-preserved g c =
-    pairs_step (g.S.CaseSource.means c.args.source.now).case.pairs c.args.out.now c.loop-pair.out c.put-arc.new.out c.put-arc-in-loop-pair.new.out c.args.from c.loop-pair.pair
+    pairs_step (g.S.CaseSource.means c.args.source.now).case.pairs c.args.out.now c.loop-pair.out c.put_arc.new.out c.put_arc-in-loop-pair.new.out c.args.from c.loop-pair.pair
     (arc_found c.arm.result) (arc_found c.arm-in-loop-pair.result) c.arm.ensures c.arm-in-loop-pair.ensures
-    (omega (arith, c.pair-count-pair-end.ensures, c.loop-pair-test.true)) c.requires c.loop-pair.invariant c.put-arc.ensures c.put-arc-in-loop-pair.ensures
+    (omega (arith, c.pair_count-pair-end.ensures, c.loop-pair-test.true)) c.requires c.loop-pair.invariant c.put_arc.ensures c.put_arc-in-loop-pair.ensures
 
 pub returns : goal.returns
 returns g c =
-    pairs_end (g.S.CaseSource.means c.args.source.now).case.pairs c.args.out.now c.loop-pair.out c.args.from c.loop-pair.pair (omega (arith, c.pair-count-pair-end.ensures, c.loop-pair-test.false)) c.loop-pair.invariant
+    pairs_end (g.S.CaseSource.means c.args.source.now).case.pairs c.args.out.now c.loop-pair.out c.args.from c.loop-pair.pair (omega (arith, c.pair_count-pair-end.ensures, c.loop-pair-test.false)) c.loop-pair.invariant

@@ -3,7 +3,7 @@ use Rattle.bounds.specs.Bounds.{longest_path, look_ahead}
 use Rattle.bounds.proofs.Asked.{asked_still, asked_after}
 use Rattle.bounds.proofs.Tried.{trying_start, trying_more, trying_same, trying_all}
 use Rattle.bounds.proofs.ahead.LookAheadBound.ask.Goals as goal
-use Rattle.bounds.proofs.ahead.LookAheadBound.ask.Goals.{then-is-undecided, else-is-undecided}
+use Rattle.bounds.proofs.ahead.LookAheadBound.ask.Goals.{then-is_undecided, else-is_undecided}
 
 pub loop-pair-init : goal.loop-pair-init
 loop-pair-init g c =
@@ -15,15 +15,15 @@ pub loop-pair-preserved : goal.loop-pair-preserved
 loop-pair-preserved g c =
     let m = (g.S.CaseSource.means c.args.source.now).case in
     let l : c.loop-pair.pair < length m.pairs = omega arith in
-    elim c.if-is-undecided.branch [
-      | then-is-undecided w ↦
+    elim c.if-is_undecided.branch [
+      | then-is_undecided w ↦
           rw (w.arms-is, w.times-is, w.best-is)
           (trying_more g.V.TimeMeasure.rank g.V.TimeMeasure.ranking m c.ask-best.new.arms c.ask-best.new.times c.loop-pair.arms c.loop-pair.times c.loop-pair.best c.loop-pair.pair l c.loop-pair.auto.times c.loop-pair.invariant
-          c.is-undecided.result w.with-either-tried.new.arms w.with-either-tried.new.times w.with-either-tried.result w.later-best.result c.is-undecided.ensures w.if-is-undecided.true w.with-either-tried.ensures w.later-best.ensures)
-      | else-is-undecided w ↦
+          c.is_undecided.result w.with_either-tried.new.arms w.with_either-tried.new.times w.with_either-tried.result w.later-best.result c.is_undecided.ensures w.if-is_undecided.true w.with_either-tried.ensures w.later-best.ensures)
+      | else-is_undecided w ↦
           rw (w.arms-is, w.times-is, w.best-is)
           (trying_same g.V.TimeMeasure.rank g.V.TimeMeasure.ranking m c.ask-best.new.arms c.ask-best.new.times c.loop-pair.arms c.loop-pair.times c.loop-pair.best c.loop-pair.pair l c.loop-pair.auto.times c.loop-pair.invariant
-          c.is-undecided.result c.is-undecided.ensures w.if-is-undecided.false)
+          c.is_undecided.result c.is_undecided.ensures w.if-is_undecided.false)
     ]
 
 pub returns : goal.returns

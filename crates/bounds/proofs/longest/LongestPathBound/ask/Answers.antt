@@ -14,7 +14,7 @@ returns-in-Ok-true g c =
       answer = λ h.
           let e = told.answer h in
           let b : true ≡ is_some (least_times r m.case s) = cc in
-          longest_read g.V.TimeMeasure.rank c.least-times.new.times r m.case s c.end.result c.index-times-end.result m.within b (told.times h) c.end.ensures c.index-times-end.is;
+          longest_read g.V.TimeMeasure.rank c.least_times.new.times r m.case s c.end.result c.index-times-end.result m.within b (told.times h) c.end.ensures c.index-times-end.is;
       same = refl;
       behind = told.behind;
       short = λ h. let e = (told.short h).0 in let z : ◌≡◌ {A = ℕ} 0 1 = cc in absurd (omega arith);

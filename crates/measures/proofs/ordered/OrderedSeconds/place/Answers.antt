@@ -5,5 +5,5 @@ use Rattle.measures.proofs.ordered.OrderedSeconds.place.Goals as goal
 pub returns : goal.returns
 returns c =
     let f : SFits w64 c.args.self.rank = search rules in
-    let q : SFits w64 c.rem-euclid.result = search rules in
-    let e = place_is c.args.self.rank c.rem-euclid.result f q c.rem-euclid.ensures.value in record { value = e; parts = place_parts c.args.self.rank _ e }
+    let q : SFits w64 c.rem_euclid.result = search rules in
+    let e = place_is c.args.self.rank c.rem_euclid.result f q c.rem_euclid.ensures.value in record { value = e; parts = place_parts c.args.self.rank _ e }

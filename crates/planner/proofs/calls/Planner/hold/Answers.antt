@@ -4,8 +4,8 @@ use Rattle.planner.specs.View.{view}
 use Rattle.planner.proofs.Making.{refused, accepted, hold_no_pair, hold_no_arm, hold_held, hold_taken}
 use Rattle.planner.proofs.calls.Planner.hold.Goals as goal
 
-pub returns-then-pair-pair-count : goal.returns-then-pair-pair-count
-returns-then-pair-pair-count g c =
+pub returns-then-pair-pair_count : goal.returns-then-pair-pair_count
+returns-then-pair-pair_count g c =
     let p = c.args.self.now in
     let m = (g.S.CaseSource.means p.source).case in
     refused (λ s. (g.S.CaseSource.means s).case) (λ s. (g.S.CaseSource.means s).within) g.V.TimeMeasure.rank g.V.TimeMeasure.ranking g.met.V.TimeMeasure.bounded g.B.Bound.meaning g.met.B.Bound.lower p (to_hold c.args.pair c.args.arm) _

@@ -47,7 +47,7 @@ returns g c =
     let m = (g.S.CaseSource.means p.source).case in
     let b = g.B.Bound.meaning p.bound in
     let t = c.walk-nodes.new.table in
-    let e = shown_is rank m r b t c.lower-after-self.result (walked m r b c.args.budget (view (λ s. (g.S.CaseSource.means s).case) rank p)) c.walk-nodes.ensures.stepped.state c.lower-after-self.ensures.answer in
+    let e = shown_is rank m r b t c.lower_after-self.result (walked m r b c.args.budget (view (λ s. (g.S.CaseSource.means s).case) rank p)) c.walk-nodes.ensures.stepped.state c.lower_after-self.ensures.answer in
     record {
       made = accepted (λ s. (g.S.CaseSource.means s).case) (λ s. (g.S.CaseSource.means s).within) rank r g.met.V.TimeMeasure.bounded g.B.Bound.meaning g.met.B.Bound.lower p _ (to_search c.args.budget (length c.args.times.now))
           (search_taken m (view (λ s. (g.S.CaseSource.means s).case) rank p) c.args.budget (length c.args.times.now) c.if-self.false (λ e. omega arith) (omega arith) (omega arith))
@@ -56,9 +56,9 @@ returns g c =
         nodes = c.walk-nodes.ensures.count;
         count = refl;
         finished = refl;
-        planned = c.is-some.ensures ∙ has_plan_lem rank (length m.pairs) t.plan;
+        planned = c.is_some.ensures ∙ has_plan_lem rank (length m.pairs) t.plan;
         told = c.show.ensures.times;
-        behind = c.show.ensures.behind ∙ c.lower-after-self.ensures.behind ∙ c.walk-nodes.ensures.stepped.behind;
+        behind = c.show.ensures.behind ∙ c.lower_after-self.ensures.behind ∙ c.walk-nodes.ensures.stepped.behind;
       };
       progress = advanced m r b (g.S.CaseSource.means p.source).within g.met.V.TimeMeasure.bounded (g.met.B.Bound.lower p.bound) c.args.budget (view (λ s. (g.S.CaseSource.means s).case) rank p) _ e;
     }

@@ -3,8 +3,8 @@ use Rattle.graph.specs.Views.{pair_of}
 use Rattle.sources.proofs.Listing.{first_listed, second_listed, below_mapped}
 use Rattle.sources.proofs.listed.ListsUnchecked.arm_at.Goals as goal
 
-pub offset-bounds-self-pair : goal.offset-bounds-self-pair
-offset-bounds-self-pair c = let h : c.args.pair < length c.args.self.now.pairs.now = below_mapped pair_of c.args.self.now.pairs.now c.args.pair c.requires.pair in search rules
+pub offset_bounds-self-pair : goal.offset_bounds-self-pair
+offset_bounds-self-pair c = let h : c.args.pair < length c.args.self.now.pairs.now = below_mapped pair_of c.args.self.now.pairs.now c.args.pair c.requires.pair in search rules
 
 pub bounds-self-pair : goal.bounds-self-pair
 bounds-self-pair c = below_mapped pair_of c.args.self.now.pairs.now c.args.pair c.requires.pair

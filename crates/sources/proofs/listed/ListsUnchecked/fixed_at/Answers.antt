@@ -3,8 +3,8 @@ use Rattle.graph.specs.Views.{arc_of}
 use Rattle.sources.proofs.Listing.{nth_map, below_mapped}
 use Rattle.sources.proofs.listed.ListsUnchecked.fixed_at.Goals as goal
 
-pub offset-bounds-self-at : goal.offset-bounds-self-at
-offset-bounds-self-at c = let h : c.args.at < length c.args.self.now.fixed.now = below_mapped arc_of c.args.self.now.fixed.now c.args.at c.requires in search rules
+pub offset_bounds-self-at : goal.offset_bounds-self-at
+offset_bounds-self-at c = let h : c.args.at < length c.args.self.now.fixed.now = below_mapped arc_of c.args.self.now.fixed.now c.args.at c.requires in search rules
 
 pub bounds-self-at : goal.bounds-self-at
 bounds-self-at c = below_mapped arc_of c.args.self.now.fixed.now c.args.at c.requires
