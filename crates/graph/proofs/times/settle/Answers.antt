@@ -10,8 +10,8 @@ loop-round-init g c =
 pub returns-then-not-raise_round : goal.returns-then-not-raise_round
 returns-then-not-raise_round g c =
     let m = (g.S.CaseSource.means c.args.source.now).case in
-    let h : c.loop-round.-round < m.end = omega arith in
-    let d = settle_stop g.V.TimeMeasure.ranking g.met.V.TimeMeasure.bounded m (g.S.CaseSource.means c.args.source.now).within c.args.arms.now g.V.TimeMeasure.rank c.args.times.now c.loop-round.times c.raise_round.new.times c.loop-round.-round h c.raise_round.ensures.raised (c.raise_round.ensures.same c.if-not-raise_round.true) c.loop-round.invariant in
+    let h : c.loop-round._round < m.end = omega arith in
+    let d = settle_stop g.V.TimeMeasure.ranking g.met.V.TimeMeasure.bounded m (g.S.CaseSource.means c.args.source.now).within c.args.arms.now g.V.TimeMeasure.rank c.args.times.now c.loop-round.times c.raise_round.new.times c.loop-round._round h c.raise_round.ensures.raised (c.raise_round.ensures.same c.if-not-raise_round.true) c.loop-round.invariant in
     record { raised = d.shown; behind = d.behind }
 
 pub loop-round-preserved : goal.loop-round-preserved
