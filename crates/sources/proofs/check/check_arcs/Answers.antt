@@ -27,7 +27,7 @@ loop-arm-preserved g c =
     let m = g.U.Unchecked.lists c.args.case.now in
     let h : c.loop-pair.pair < length m.pairs = omega (arith, c.pairs_len-pair-end.ensures, c.loop-pair-test.true) in
     at_arm_skip m c.last_event-end.result c.last_event-end.ensures c.loop-pair.pair c.loop-arm.arm (c.fixed_len-fixed.result + 2 * c.loop-pair.pair + c.loop-arm.arm - 1)
-    (arc_of c.arm_at_lem.result) h (omega arith) (omega arith) (omega (arith, c.fixed_len-fixed.ensures)) c.arm_at_lem.ensures c.in_default-check_arc.ensures c.loop-arm.invariant
+    (arc_of c.arm_at.result) h (omega arith) (omega arith) (omega (arith, c.fixed_len-fixed.ensures)) c.arm_at.ensures c.in_default-check_arc.ensures c.loop-arm.invariant
 
 pub loop-pair-preserved : goal.loop-pair-preserved
 loop-pair-preserved g c =
@@ -45,7 +45,7 @@ returns-in-Some g c =
           let h : w.loop-pair.pair < length m.pairs = omega (arith, w.pairs_len-pair-end.ensures, w.loop-pair-test.true) in
           ap case_found w.first-is
           ∙ at_arm_found m c.last_event-end.result c.last_event-end.ensures w.loop-pair.pair w.loop-arm.arm (c.fixed_len-fixed.result + 2 * w.loop-pair.pair + w.loop-arm.arm - 1)
-          (arc_of w.arm_at_lem.result) (of_case w.in-Err-check_arc.fault) h (omega (arith, w.loop-arm.auto)) (omega (arith, w.loop-arm-test.true)) (omega (arith, c.fixed_len-fixed.ensures)) w.arm_at_lem.ensures w.in-Err-check_arc.ensures w.loop-arm.invariant
+          (arc_of w.arm_at.result) (of_case w.in-Err-check_arc.fault) h (omega (arith, w.loop-arm.auto)) (omega (arith, w.loop-arm-test.true)) (omega (arith, c.fixed_len-fixed.ensures)) w.arm_at.ensures w.in-Err-check_arc.ensures w.loop-arm.invariant
       | else-loop-at-test+else-loop-pair-test w ↦
           ap case_found w.first-is
           ∙ at_pairs_end m c.last_event-end.result c.last_event-end.ensures w.loop-pair.pair (omega (arith, w.pairs_len-pair-end.ensures, w.loop-pair-test.false)) w.loop-pair.invariant
@@ -62,7 +62,7 @@ returns-in-None g c =
           let h : w.loop-pair.pair < length m.pairs = omega (arith, w.pairs_len-pair-end.ensures, w.loop-pair-test.true) in
           ap case_found w.first-is
           ∙ at_arm_found m c.last_event-end.result c.last_event-end.ensures w.loop-pair.pair w.loop-arm.arm (c.fixed_len-fixed.result + 2 * w.loop-pair.pair + w.loop-arm.arm - 1)
-          (arc_of w.arm_at_lem.result) (of_case w.in-Err-check_arc.fault) h (omega (arith, w.loop-arm.auto)) (omega (arith, w.loop-arm-test.true)) (omega (arith, c.fixed_len-fixed.ensures)) w.arm_at_lem.ensures w.in-Err-check_arc.ensures w.loop-arm.invariant
+          (arc_of w.arm_at.result) (of_case w.in-Err-check_arc.fault) h (omega (arith, w.loop-arm.auto)) (omega (arith, w.loop-arm-test.true)) (omega (arith, c.fixed_len-fixed.ensures)) w.arm_at.ensures w.in-Err-check_arc.ensures w.loop-arm.invariant
       | else-loop-at-test+else-loop-pair-test w ↦
           ap case_found w.first-is
           ∙ at_pairs_end m c.last_event-end.result c.last_event-end.ensures w.loop-pair.pair (omega (arith, w.pairs_len-pair-end.ensures, w.loop-pair-test.false)) w.loop-pair.invariant
