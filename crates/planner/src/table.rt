@@ -26,6 +26,18 @@ pub(crate) struct Table<V> {
     ghost few: { count + left finished (room 60 (take depth next)) ≤ 2 ^ 61 - 1 },
 }
 
+impl<V: Copy> Clone for Plan<V> {
+    fn clone(&self) -> Self {
+        *self
+    }
+}
+
 impl<V: Copy> Copy for Plan<V> {}
+
+impl<V: Copy> Clone for Table<V> {
+    fn clone(&self) -> Self {
+        *self
+    }
+}
 
 impl<V: Copy> Copy for Table<V> {}

@@ -6,7 +6,7 @@ use Rattle.graph.proofs.Raise.{times_laws}
 use Rattle.session.proofs.Refilled.{times_some, times_none}
 use Rattle.session.specs.Open.{TimesFound}
 use Rattle.session.proofs.cases.times_of.Goals as goal
-use Rattle.session.proofs.cases.times_of.Goals.{then_Found, else-found}
+use Rattle.session.proofs.cases.times_of.Goals.{then-found, else-found}
 
 pub returns-in_err-times : goal.returns-in_err-times
 returns-in_err-times g c =
@@ -28,7 +28,7 @@ returns g c =
     let room : m.case.end < length c.as_mut_slice.result.now = omega (arith, c.as_mut_slice.ensures.len, c.in_ok-times.ensures, c.end.ensures) in
     record {
       found = elim c.if-found.branch [
-        | then_Found w ↦ subst (TimesFound rank o) (sym w.result-is)
+        | then-found w ↦ subst (TimesFound rank o) (sym w.result-is)
             (times_some rank r m.case s c.in-Ok.found o law c.in_ok-times.times c.least_times.new.times (told.answer room) w.if-found.true
             (omega (arith, c.in_ok-times.ensures, c.end.ensures)) (omega (arith, c.least_times.auto.times, c.as_mut_slice.ensures.len)) (told.times room))
         | else-found w ↦ subst (TimesFound rank o) (sym w.result-is) (times_none rank r m.case s c.in-Ok.found o (told.answer room) w.if-found.false)
