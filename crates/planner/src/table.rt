@@ -1,6 +1,8 @@
 //! What a planner keeps from call to call.
-ghost use Rattle.std.specs.Prelude.{◌≡◌, ℕ, ◌+◌, ◌-◌, ◌^◌, ◌≤◌, true, length, take};
+ghost use Rattle.std.specs.Prelude.{◌≡◌, ℕ, ◌+◌, ◌-◌, ◌^◌, ◌≤◌, true, length, take, ⊤};
 ghost use Rattle.planner.specs.Room.{room, left, small};
+
+use std::alloc::AllocError;
 
 /// A full selection and the delay of its least times.
 pub(crate) struct Plan<V> {
@@ -27,16 +29,24 @@ pub(crate) struct Table<V> {
 }
 
 impl<V: Copy> Clone for Plan<V> {
-    fn clone(&self) -> Self {
-        *self
+    ghost is_clone = { λ x y. y ≡ x };
+
+    ghost is_infallible = { λ _. ⊤ };
+
+    fn clone(&self) -> Result<Self, AllocError> {
+        Ok(*self)
     }
 }
 
 impl<V: Copy> Copy for Plan<V> {}
 
 impl<V: Copy> Clone for Table<V> {
-    fn clone(&self) -> Self {
-        *self
+    ghost is_clone = { λ x y. y ≡ x };
+
+    ghost is_infallible = { λ _. ⊤ };
+
+    fn clone(&self) -> Result<Self, AllocError> {
+        Ok(*self)
     }
 }
 
