@@ -11,4 +11,4 @@ mod words;
 
 pub use examples::examples_hold;
 pub use faults::{PlanMessageFault, PlannerFault};
-pub use laws::search_laws_hold;
+pub use laws::{always_sound, more_walk_laws_hold, walk_laws_hold};
