@@ -9,10 +9,10 @@ use Rattle.runs.proofs.requests.replay.Goals as goal
 
 pub loop-request-preserved : goal.loop-request-preserved
 loop-request-preserved g c = (
-  replayed_step (λ s. (g.S.CaseSource.means s).case) g.V.TimeMeasure.rank g.V.TimeMeasure.ranking g.B.Bound.meaning c.open_planner.result.source c.open_planner.result.bound
+  replayed_step (λ s. (g.S.CaseSource.means s).case) g.V.TimeMeasure.rank g.V.TimeMeasure.ranking g.B.Bound.meaning c.open-planner.result.source c.open-planner.result.bound
       c.args.requests.now c.loop-request.request-index (length c.args.times.now) (length c.loop-request.times) (Hold 0 0) (planner_told c.make.result) c.loop-request.planner c.make.new.planner
       c.loop-request-test.true c.loop-request.auto.times c.make.ensures.made c.loop-request.invariant.0,
-  left_step (λ s. (g.S.CaseSource.means s).case) g.V.TimeMeasure.rank g.V.TimeMeasure.ranking g.B.Bound.meaning c.open_planner.result.source c.open_planner.result.bound
+  left_step (λ s. (g.S.CaseSource.means s).case) g.V.TimeMeasure.rank g.V.TimeMeasure.ranking g.B.Bound.meaning c.open-planner.result.source c.open-planner.result.bound
       c.args.requests.now c.loop-request.request-index (length c.args.times.now) (length c.loop-request.times) (Hold 0 0) c.loop-request.planner c.args.times.now c.loop-request.times c.make.new.times
       c.loop-request-test.true c.loop-request.auto.times c.loop-request.invariant.0 c.make.ensures.left c.loop-request.invariant.1,
 )
@@ -20,13 +20,13 @@ loop-request-preserved g c = (
 pub returns : goal.returns
 returns g c =
     let h = replayed_all (λ s. (g.S.CaseSource.means s).case) g.V.TimeMeasure.rank g.V.TimeMeasure.ranking g.B.Bound.meaning c.args.source c.args.bound
-    c.args.requests.now c.loop-request.request-index (length c.args.times.now) c.open_planner.result.source c.open_planner.result.bound c.loop-request.planner
-    (omega arith) c.open_planner.ensures.source c.open_planner.ensures.bound c.loop-request.invariant.0 in
+    c.args.requests.now c.loop-request.request-index (length c.args.times.now) c.open-planner.result.source c.open-planner.result.bound c.loop-request.planner
+    (omega arith) c.open-planner.ensures.source c.open-planner.ensures.bound c.loop-request.invariant.0 in
     record {
       state = h.state;
       left = left_all (λ s. (g.S.CaseSource.means s).case) g.V.TimeMeasure.rank g.V.TimeMeasure.ranking g.B.Bound.meaning c.args.source c.args.bound
-          c.args.requests.now (take c.loop-request.request-index c.args.requests.now) (length c.args.times.now) c.open_planner.result.source c.open_planner.result.bound c.args.times.now c.loop-request.times
-          (take_all c.loop-request.request-index c.args.requests.now (omega arith)) c.open_planner.ensures.source c.open_planner.ensures.bound c.loop-request.invariant.1;
+          c.args.requests.now (take c.loop-request.request-index c.args.requests.now) (length c.args.times.now) c.open-planner.result.source c.open-planner.result.bound c.args.times.now c.loop-request.times
+          (take_all c.loop-request.request-index c.args.requests.now (omega arith)) c.open-planner.ensures.source c.open-planner.ensures.bound c.loop-request.invariant.1;
       lawful = replayed_lawful (λ s. (g.S.CaseSource.means s).case) g.V.TimeMeasure.rank g.V.TimeMeasure.ranking g.B.Bound.meaning c.args.source c.args.bound (calls_of (length c.args.times.now) c.args.requests.now) c.loop-request.planner
           (g.S.CaseSource.means c.args.source).within g.met.V.TimeMeasure.bounded (g.met.B.Bound.lower c.args.bound) h;
     }
