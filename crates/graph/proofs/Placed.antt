@@ -1,11 +1,11 @@
 -- The places of a case, and the arcs that stand there. Assumes nothing.
-use Rattle.std.proofs.Common.{◌≡◌, ℕ, zero, suc, ◌+◌, ◌-◌, ◌<◌, ◌≤◌, Bool, true, false, cond, eqb, leb, List, [], ◌∷◌, ◌++◌, map, length, get_or, take, Some, None, Option, sym, refl, ap, ◌∙◌, subst, append_assoc, arith}
+use Rattle.std.proofs.Common.{◌≡◌, ℕ, zero, suc, ◌+◌, ◌-◌, ◌<◌, ◌≤◌, cond, eqb, leb, List, [], ◌∷◌, ◌++◌, map, length, get_or, take, Some, None, Option, sym, refl, ap, ◌∙◌, subst, append_assoc, arith}
 use Rattle.std.specs.List.{AllByRecursion as All, slice_get}
-use Rattle.std.proofs.ByRecursion.{All-append, All-get_or, All-map, All-weaker}
-use Rattle.std.proofs.lemmas.List.{length-append, length-map, take_more, append-nil, get_or_append_left, get_or-append_right}
-use Rattle.std.proofs.lemmas.Bool.{cond_both, cond-true, cond-false, eqb-true, leb-true, leb-false, ne_eqb}
+use Rattle.std.proofs.ByRecursion.{All-append, All-get_or, All-map}
+use Rattle.std.proofs.lemmas.List.{length-append, length-map, take_more, append-nil, get_or-append_right}
+use Rattle.std.proofs.lemmas.Bool.{cond_both}
 use Rattle.std.proofs.lemmas.Bool.Decides.{nat_tests}
-use Rattle.graph.specs.Graph.{Arc, Pair, Case, Within, ArcWithin, Selection, selection_of, chosen, selected, arcs}
+use Rattle.graph.specs.Graph.{Arc, Pair, Case, Within, ArcWithin, selection_of, chosen, selected}
 use Rattle.graph.specs.Views.{arm_of, arm_at}
 use Rattle.graph.specs.Steps.{arms_of, places, arcs_of}
 

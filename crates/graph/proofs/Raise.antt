@@ -7,7 +7,7 @@ use Rattle.std.proofs.ByRecursion.{All-append, all-has, All-weaker, all_has_itse
 use Rattle.std.proofs.lemmas.Int.{ints, by_lt_z}
 use Rattle.std.proofs.lemmas.Bool.{cases_lt, cases_order, cases_eq, and_parts, and_from, eqb-true, eq-eqb, cond_both, both_ways}
 use Rattle.graph.specs.Graph.{Arc, Pair, Case, Within, ArcWithin, Ranking, Timetable, Selection, Keeps, arcs, selected, chosen}
-use Rattle.graph.specs.Times.{Least, Path, here, along, from_start, NoCycle, Longest, floor, raised_by, raised, rounds, kept_all, least_times, time_of, NoTimes, AreLeast, PositiveCycle, Feasible, Infeasible, TimesMean, TimesLaw}
+use Rattle.graph.specs.Times.{Least, Path, here, along, from_start, NoCycle, Longest, floor, raised_by, raised, rounds, kept_all, least_times, time_of, NoTimes, AreLeast, PositiveCycle, TimesMean, TimesLaw}
 
 -- ---- a path under a timetable that keeps the arcs
 

@@ -1,18 +1,18 @@
 -- Rounds under way, and what they end in.
-use Rattle.std.proofs.Common.{◌≡◌, ℕ, zero, suc, ◌+◌, ◌-◌, ◌*◌, ◌^◌, ◌<◌, ◌≤◌, Bool, true, false, cond, not, ◌&&◌, eqb, List, [], ◌∷◌, ◌++◌, length, get_or, drop, replicate, ℤ, pos, is_some as option_is_some, Some, None, sym, refl, ap, ◌∙◌, subst, arith}
+use Rattle.std.proofs.Common.{◌≡◌, ℕ, zero, suc, ◌+◌, ◌-◌, ◌*◌, ◌^◌, ◌<◌, ◌≤◌, Bool, true, false, cond, not, ◌&&◌, eqb, List, length, get_or, drop, replicate, ℤ, pos, is_some as option_is_some, Some, None, sym, refl, ap, ◌∙◌, subst, arith}
 use lib.Signed.{lt_z}
 use Rattle.std.specs.List.{AllByRecursion as All}
 use Rattle.std.proofs.ByRecursion.{All-weaker}
 use Rattle.std.proofs.lemmas.List.{length-replicate}
 use Rattle.std.proofs.lemmas.Bool.Decides.{nat_tests}
 use Rattle.std.proofs.lemmas.Bool.{and_left, true≢false, false≢true}
-use Rattle.graph.specs.Graph.{Arc, Case, Within, ArcWithin, Ranking, IsRanking, selection_of}
+use Rattle.graph.specs.Graph.{Case, Within, ArcWithin, Ranking, IsRanking, selection_of}
 use Rattle.graph.specs.Times.{raised, rounds, kept_all, least_times}
 use Rattle.graph.specs.Views.{Shows}
 use Rattle.graph.specs.Told.{times_or_zeros}
 use Rattle.graph.specs.Steps.{Ready, places, arcs_of, last_times}
 use Rattle.graph.proofs.Shown.{shows_at, shows_same, low_raised, length_raised, rounds_more, rounds_still, rounds_add}
-use Rattle.graph.proofs.Placed.{present, present_places, length_places, places_within, present_within, length_present}
+use Rattle.graph.proofs.Placed.{present_places, length_places, places_within, present_within, length_present}
 
 -- after k rounds
 pub record Settling {V : Type 0} (rank : V → ℤ) (r : Ranking) (c : Case) (s : List ℕ) (first now : List V) (k : ℕ) : Type 0 where

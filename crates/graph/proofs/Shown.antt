@@ -1,15 +1,15 @@
 -- Values that show times, and what a raise does to both. Assumes nothing.
-use Rattle.std.proofs.Common.{◌≡◌, ℕ, zero, suc, ◌+◌, ◌-◌, ◌*◌, ◌^◌, ◌<◌, ◌≤◌, max, Bool, true, false, cond, not, ◌&&◌, eqb, ltb, leb, List, [], ◌∷◌, ◌++◌, length, get_or, drop, set, replicate, ℤ, pos, negsuc, ◌+ℤ◌, ◌≤ℤ◌, sym, refl, ap, ◌∙◌, subst, add-one, arith, w32, to_z, of_z}
+use Rattle.std.proofs.Common.{◌≡◌, ℕ, zero, suc, ◌+◌, ◌*◌, ◌^◌, ◌<◌, ◌≤◌, max, Bool, true, false, not, ◌&&◌, List, [], ◌∷◌, ◌++◌, length, get_or, set, replicate, ℤ, pos, negsuc, ◌+ℤ◌, ◌≤ℤ◌, sym, refl, ap, ◌∙◌, subst, add-one, arith, w32, to_z, of_z}
 use lib.Signed.{lt_z, le_z}
 use Rattle.std.specs.List.{AllByRecursion as All}
 use Rattle.std.proofs.ByRecursion.{All-set, All-get_or, All-weaker}
-use Rattle.std.proofs.lemmas.List.{length-set, set-get_or, drop-set-lt}
+use Rattle.std.proofs.lemmas.List.{length-set, set-get_or}
 use Rattle.std.proofs.lemmas.Int.{ints}
 use Rattle.std.proofs.lemmas.Bool.{ltb-true, ltb-false, false≢true}
 use Rattle.graph.specs.Graph.{Arc, ArcWithin, Ranking, IsRanking}
 use Rattle.graph.specs.Times.{floor, raised_by, raised, rounds, kept_all}
 use Rattle.graph.specs.Views.{Shows, Summable}
-use Rattle.graph.specs.Steps.{Raisable, Ready}
+use Rattle.graph.specs.Steps.{Raisable}
 
 module _ {V : Type 0} (rank : V → ℤ) where
   pub shows_at : (vs : List V) (ts : List ℕ) (i : ℕ) (v : V) → Shows rank vs ts → i < length ts → v ≡ get_or vs i v → rank v ≡ pos (get_or ts i 0)

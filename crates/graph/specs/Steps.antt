@@ -1,5 +1,5 @@
 -- The steps by which least times are worked out, for the contracts of functions inside the crate. Assumes nothing.
-use Rattle.std.specs.Prelude.{◌≡◌, ℕ, ◌+◌, ◌^◌, ◌<◌, ◌≤◌, Bool, true, false, List, [], ◌∷◌, ◌++◌, map, length, drop, replicate, ℤ, is_some, Some, None, Option}
+use Rattle.std.specs.Prelude.{◌≡◌, ℕ, ◌+◌, ◌^◌, ◌<◌, ◌≤◌, Bool, false, List, [], ◌∷◌, ◌++◌, map, length, drop, replicate, ℤ, is_some, Some, None, Option}
 use Rattle.std.specs.List.{AllByRecursion as All}
 use Rattle.graph.specs.Graph.{Arc, Pair, Case, ArcWithin, Ranking, selection_of, arcs}
 use Rattle.graph.specs.Times.{raised_by, rounds, least_times}

@@ -1,7 +1,7 @@
 -- Least times. Assumes nothing.
-use Rattle.std.specs.Prelude.{◌≡◌, ℕ, zero, suc, ◌+◌, ◌≤◌, max, Bool, true, false, cond, ◌&&◌, List, [], ◌∷◌, ◌++◌, length, replicate, ℤ, pos, negsuc, ◌+ℤ◌, ◌≤ℤ◌, Some, None, Option, ◌==◌, int_le, slice_index, slice_set}
+use Rattle.std.specs.Prelude.{◌≡◌, ℕ, zero, suc, ◌+◌, ◌≤◌, max, Bool, true, cond, ◌&&◌, List, [], ◌∷◌, length, replicate, ℤ, pos, negsuc, ◌+ℤ◌, ◌≤ℤ◌, Some, None, Option, ◌==◌, int_le, slice_index, slice_set}
 use Rattle.std.specs.List.{ContainsAt as Has, AllByRecursion as All}
-use Rattle.graph.specs.Graph.{Arc, Case, Within, Ranking, Timetable, Selection, Keeps, arcs}
+use Rattle.graph.specs.Graph.{Arc, Case, Ranking, Timetable, Selection, Keeps, arcs}
 
 -- the smallest ranks that keep the fixed arcs and the selected arms
 pub record Least (r : Ranking) (c : Case) (s : Selection) (t : Timetable) : Type 0 where

@@ -4,7 +4,7 @@ use lib.Signed.{lt_z}
 use Rattle.std.specs.List.{AllByRecursion as All}
 use Rattle.std.proofs.lemmas.Bool.{ltb-false, eqb-false, le-ltb, ne_eqb, or_parts, or_from, cond-false}
 use Rattle.std.proofs.lemmas.Int.{ints}
-use Rattle.graph.specs.Faults.{Fault, fault, or_else}
+use Rattle.graph.specs.Faults.{Fault, or_else}
 use Rattle.graph.specs.Graph.{Arc, Pair, Within, ArcWithin, empty_case}
 use Rattle.messages.specs.Message.{arc_fault, fixed_fault, pairs_fault}
 
