@@ -1,8 +1,8 @@
 -- One node looked at.
-use Rattle.std.proofs.Common.{◌≡◌, ℕ, ◌+◌, ◌<◌, ◌≤◌, Bool, true, false, cond, ltb, List, [], ◌∷◌, ◌++◌, length, get_or, take, set, replicate, ℤ, pos, Some, None, Option, sym, refl, ap, ◌∙◌, subst, arith}
+use Rattle.std.proofs.Common.{◌≡◌, ℕ, ◌+◌, ◌<◌, ◌≤◌, Bool, true, false, ltb, List, [], ◌∷◌, ◌++◌, length, get_or, take, set, replicate, ℤ, pos, Some, None, Option, sym, refl, ap, ◌∙◌, subst, arith}
 use Rattle.std.proofs.lemmas.List.{length-take-le, take_more_set}
 use Rattle.std.proofs.lemmas.Bool.{cond-true, cond-false, lt-ltb, le-ltb}
-use Rattle.graph.specs.Graph.{Case, Ranking, Within, Selection, selection_of}
+use Rattle.graph.specs.Graph.{Case, Ranking, Within, selection_of}
 use Rattle.graph.specs.Times.{least_times}
 use Rattle.bounds.specs.Bounds.{Meaning, end_of}
 use Rattle.search.specs.Search.{Planner, Plan, Node, moved_to, after, better, cuts, joined, free, bound_at, examined, plan_times}

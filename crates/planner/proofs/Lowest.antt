@@ -1,12 +1,11 @@
 -- The lower bound after a search.
-use Rattle.std.proofs.Common.{◌≡◌, ℕ, zero, suc, ◌+◌, ◌<◌, ◌≤◌, Bool, true, false, cond, eqb, List, [], ◌∷◌, ◌++◌, map, length, get_or, take, drop, ℤ, Some, None, Option, sym, refl, ap, ◌∙◌, subst, arith}
-use Rattle.std.proofs.lemmas.List.{append-nil, append_assoc, map-append, take_more}
-use Rattle.std.proofs.lemmas.Bool.{cond-true, cond-false, eq-eqb, ne_eqb}
+use Rattle.std.proofs.Common.{◌≡◌, ℕ, ◌+◌, ◌<◌, Bool, true, false, cond, eqb, List, [], ◌∷◌, ◌++◌, map, length, get_or, take, drop, ℤ, Option, sym, refl, ap, ◌∙◌, subst}
+use Rattle.std.proofs.lemmas.List.{append-nil, map-append, take_more}
+use Rattle.std.proofs.lemmas.Bool.{eq-eqb, ne_eqb}
 use Rattle.graph.specs.Graph.{Case, Ranking, Selection}
 use Rattle.bounds.specs.Bounds.{Meaning, smaller}
-use Rattle.search.specs.Search.{Planner, Plan, Node, waiting, bound_at, least_over, plan_delay}
+use Rattle.search.specs.Search.{Node, waiting, bound_at, least_over}
 use Rattle.bounds.specs.Told.{RankIs}
-use Rattle.planner.specs.View.{table_of, least_left, Ranked}
 
 alone : Bool → Node → List Node
 alone true y = y ∷ []

@@ -1,5 +1,5 @@
 -- The count of examined nodes stays far below 2 ^ 64: each step leaves less room.
-use Rattle.std.proofs.Common.{◌≡◌, ℕ, zero, suc, ◌+◌, ◌-◌, ◌^◌, ◌<◌, ◌≤◌, Bool, true, false, cond, eqb, List, [], ◌∷◌, ◌++◌, length, take, set, Some, None, Option, sym, refl, ap, ◌∙◌, subst, arith, pow_pos}
+use Rattle.std.proofs.Common.{◌≡◌, ℕ, zero, suc, ◌+◌, ◌-◌, ◌^◌, ◌<◌, ◌≤◌, Bool, true, false, cond, eqb, List, [], ◌∷◌, ◌++◌, length, take, set, Some, None, Option, refl, subst, arith, pow_pos}
 use Rattle.std.proofs.lemmas.List.{length-take-le, take_more_set}
 use Rattle.search.specs.Search.{Node, turned, after}
 use Rattle.planner.specs.Room.{size, room, left}

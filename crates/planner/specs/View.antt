@@ -8,7 +8,7 @@ use Rattle.bounds.specs.Bounds.{Meaning}
 use Rattle.bounds.specs.Told.{RankIs}
 use Rattle.search.specs.Search as Walk
 use Rattle.search.specs.Search.{opened, fresh, after, better, plan_times}
-use Rattle.search.specs.Sound.{Call, to_hold, to_release, to_search, refusal, called, reached, GoesOn, GetsOn, Lawful}
+use Rattle.search.specs.Sound.{Call, refusal, called, reached, GoesOn, GetsOn, Lawful}
 use Rattle.search.specs.declared.faults.PlannerFault.{PlannerFault}
 use Rattle.planner.specs.Room.{small}
 use Rattle.planner.specs.declared.table.Table.{Table}

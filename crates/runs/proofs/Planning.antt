@@ -1,5 +1,5 @@
 -- One search over a message.
-use Rattle.std.proofs.Common.{◌≡◌, ℕ, List, [], ◌∷◌, length, ℤ, Some, None, Option, sym, refl, ap, ◌∙◌, subst}
+use Rattle.std.proofs.Common.{◌≡◌, ℕ, List, [], ◌∷◌, length, ℤ, None, Option, sym, ap, ◌∙◌, subst}
 use Rattle.graph.specs.Faults.{Fault}
 use Rattle.graph.specs.Graph.{Case, Ranking}
 use Rattle.bounds.specs.Bounds.{Meaning, longest_path}

@@ -1,11 +1,11 @@
 -- A message planned by one search. Assumes nothing.
-use Rattle.std.specs.Prelude.{◌≡◌, ℕ, List, [], ◌∷◌, length, ℤ, Some, None, Ok, Err, Option, Result}
+use Rattle.std.specs.Prelude.{◌≡◌, ℕ, List, [], ◌∷◌, length, ℤ, Some, None, Ok, Err, Result}
 use Rattle.graph.specs.Graph.{Case, Ranking}
 use Rattle.bounds.specs.Bounds.{longest_path}
 use Rattle.messages.specs.Message.{message_case, message_fault}
 use Rattle.messages.specs.Named.{of_message}
 use Rattle.search.specs.Search.{Planner, opened, searched}
-use Rattle.search.specs.Sound.{to_search, refusal, GoesOn, Lawful}
+use Rattle.search.specs.Sound.{to_search, refusal, Lawful}
 use Rattle.search.specs.Named.{of_planner}
 use Rattle.search.specs.declared.faults.PlanMessageFault.{PlanMessageFault}
 use Rattle.search.specs.declared.faults.PlanMessageFault.TheVariants as carried

@@ -1,15 +1,15 @@
 -- A planner is sound after any calls.
-use Rattle.std.proofs.Common.{◌≡◌, ℕ, zero, suc, ◌+◌, ◌-◌, ◌<◌, ◌≤◌, Bool, true, false, cond, not, ◌||◌, eqb, ltb, leb, ◌⊎◌, List, [], ◌∷◌, ◌++◌, length, get_or, set, replicate, Some, None, Option, sym, refl, ap, ◌∙◌, subst, inl, inr, arith}
+use Rattle.std.proofs.Common.{◌≡◌, ℕ, zero, suc, ◌≤◌, Bool, true, false, cond, not, ◌||◌, eqb, List, [], ◌∷◌, length, set, replicate, Some, None, Option, refl, ◌∙◌, inl, inr, arith}
 use Rattle.std.specs.List.{AllByRecursion as All}
 use Rattle.std.proofs.ByRecursion.{All-set}
 use Rattle.std.proofs.lemmas.List.{length-set, length-replicate}
-use Rattle.std.proofs.lemmas.Bool.{eqb-true, or_cases, not-true, not-false}
-use Rattle.graph.specs.Faults.{Fault, fault}
+use Rattle.std.proofs.lemmas.Bool.{eqb-true, or_cases, not-false}
+use Rattle.graph.specs.Faults.{Fault}
 use Rattle.graph.specs.Graph.{Case, Ranking, IsRanking, Within, Timetable, Selection, IsSelection, KeepsCase, KeepsArms, delay}
 use Rattle.graph.specs.Times.{AreLeast, least_times}
 use Rattle.graph.proofs.Raise.{worked_out}
 use Rattle.bounds.specs.Bounds.{Meaning, LowerBound, AtMost}
-use Rattle.search.specs.Search.{Planner, fresh, opened, searched, walked}
+use Rattle.search.specs.Search.{Planner, opened}
 use Rattle.search.specs.Sound.{Call, to_hold, to_release, to_search, refusal, taken, unless_refused, called, called_all, tally_taken, tally, Sound}
 use Rattle.search.proofs.Keeps.{Inv, fresh_keeps, searched_keeps, sound_by_keeping, walked_counts}
 

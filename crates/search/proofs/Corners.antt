@@ -1,8 +1,8 @@
 -- A corner: once finished with no plan, the bound on show depends on how the budget was cut into searches.
-use Rattle.std.proofs.Common.{◌≡◌, ℕ, Bool, true, false, List, [], ◌∷◌, ℤ, pos, Some, None, Option, refl}
+use Rattle.std.proofs.Common.{◌≡◌, true, [], ◌∷◌, pos, None, refl}
 use Rattle.graph.specs.Graph.{Case}
 use Rattle.bounds.specs.Bounds.{longest_path, look_ahead}
-use Rattle.search.specs.Search.{Planner, opened, searched}
+use Rattle.search.specs.Search.{searched}
 use Rattle.search.specs.Examples.{in_seconds, arc, shows, run}
 
 -- the second pair has no arm that can be kept

@@ -1,19 +1,18 @@
 -- What a planner keeps while it searches.
-use Rattle.std.proofs.Common.{◌≡◌, ℕ, zero, suc, ◌+◌, ◌-◌, ◌^◌, ◌<◌, ◌≤◌, Bool, true, false, cond, not, eqb, ltb, ◌⊎◌, List, [], ◌∷◌, ◌++◌, map, length, get_or, ℤ, pos, ◌≤ℤ◌, Some, None, Option, sym, refl, ap, ◌∙◌, subst, inl, inr, arith}
+use Rattle.std.proofs.Common.{◌≡◌, ℕ, zero, suc, ◌+◌, ◌<◌, ◌≤◌, Bool, true, false, ltb, ◌⊎◌, List, [], ◌∷◌, ◌++◌, length, get_or, ℤ, pos, ◌≤ℤ◌, Some, None, Option, sym, refl, ◌∙◌, subst, inl, inr, arith}
 use lib.Signed.{lt_z}
-use Rattle.std.specs.Int.{int_max, int_min}
 use Rattle.std.specs.List.{AllByRecursion as All}
-use Rattle.std.proofs.ByRecursion.{All-append, All-get_or, All-push, All-map}
+use Rattle.std.proofs.ByRecursion.{All-append, All-get_or, All-push}
 use Rattle.std.proofs.lemmas.List.{length_push}
 use Rattle.std.proofs.lemmas.Int.{ints, clamps}
 use Rattle.std.proofs.lemmas.Bool.{cond_both, ltb-true, ltb-false, false≢true}
-use Rattle.graph.specs.Graph.{Arc, Pair, Case, Ranking, Timetable, Selection, IsSelection, Keeps, KeepsCase, KeepsArms, selected, arcs, delay}
+use Rattle.graph.specs.Graph.{Case, Ranking, Timetable, Selection, IsSelection, Keeps, KeepsCase, KeepsArms, selected, arcs, delay}
 use Rattle.graph.specs.Times.{AreLeast, Least, least_times, time_of}
 use Rattle.graph.proofs.Raise.{no_cycle}
 use Rattle.bounds.specs.Bounds.{Meaning, AtMost, smaller}
-use Rattle.search.specs.Search.{Node, Plan, Planner, fresh, free, joined, after, waiting, cuts, better, moved_to, settled, raised_to, plan_delay, bound_at, examined, walked, least_over, lower_after, shown, searched}
+use Rattle.search.specs.Search.{Node, Plan, Planner, fresh, free, joined, after, waiting, cuts, better, moved_to, settled, raised_to, plan_delay, bound_at, examined, walked, least_over, shown, searched}
 use Rattle.search.specs.Sound.{PlanSound, OnShow, Unbeaten, Sound}
-use Rattle.search.proofs.Nodes.{Any, AnyAfter, Armed, Proper, after_covers, still_waits, other_waits, size, size_is, size_some, room, room_none, room_some, waiting_armed, any_weaker, room_after, room_branch, room_after_lem, proper_after, joined_none, length_joined, joined_small, joined_full, joined_held, branched}
+use Rattle.search.proofs.Nodes.{Any, AnyAfter, Armed, Proper, after_covers, still_waits, other_waits, size, size_is, room, room_none, room_some, waiting_armed, any_weaker, room_after, room_branch, room_after_lem, proper_after, joined_none, length_joined, joined_small, joined_full, joined_held, branched}
 
 -- the plan, a cut and a full node
 pub unbeaten_by_cut : (o : Option ℤ) (p : Option Plan) (d : ℕ) → cuts o p ≡ true → AtMost o d → Unbeaten p d

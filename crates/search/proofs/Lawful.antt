@@ -1,12 +1,12 @@
 -- The laws over runs, put together.
-use Rattle.std.proofs.Common.{◌≡◌, ℕ, zero, suc, ◌+◌, ◌<◌, ◌≤◌, Bool, true, false, cond, eqb, ◌≢◌, List, [], ◌∷◌, ◌++◌, length, get_or, set, replicate, Some, None, Option, sym, refl, ap, ◌∙◌, subst, arith, get_or-set_other, get_or-set_same}
+use Rattle.std.proofs.Common.{◌≡◌, ℕ, zero, suc, ◌<◌, cond, eqb, ◌≢◌, List, [], ◌∷◌, length, get_or, set, replicate, Some, None, Option, sym, refl, ap, ◌∙◌, subst, arith, get_or-set_other, get_or-set_same}
 use Rattle.std.proofs.lemmas.List.{length-set, length-replicate}
 use Rattle.std.proofs.lemmas.Bool.{cond_both, eqb-true, eqb-false}
 use Rattle.graph.specs.Faults.{Fault}
 use Rattle.graph.specs.Graph.{Case, Ranking, IsRanking, Within, Selection}
 use Rattle.bounds.specs.Bounds.{Meaning, LowerBound}
-use Rattle.search.specs.Search.{Planner, Plan, fresh, opened, searched}
-use Rattle.search.specs.Sound.{Call, to_hold, to_release, to_search, refusal, held_taken, unless_refused, taken, called, called_all, held_arm, reached, GoesOn, GetsOn, Progress, Lawful, AlwaysSound}
+use Rattle.search.specs.Search.{Planner, opened, searched}
+use Rattle.search.specs.Sound.{Call, to_hold, to_release, to_search, refusal, held_taken, unless_refused, taken, called, called_all, held_arm, reached, GoesOn, GetsOn, Progress, AlwaysSound}
 use Rattle.search.proofs.Calls.{sound_after}
 use Rattle.search.proofs.Progress.{walked_holds}
 use Rattle.search.proofs.Walks.{walk_laws}

@@ -2,7 +2,7 @@
 use Rattle.std.proofs.Common.{◌≡◌, ℕ, zero, suc, ◌+◌, ◌≤◌, true, false, cond, ltb, List, [], ◌∷◌, ◌++◌, length, get_or, ℤ, pos, ◌≤ℤ◌, Some, None, Option, sym, refl, ap, ◌∙◌, subst, zero-add, arith}
 use lib.Signed.{lt_z}
 use Rattle.std.proofs.lemmas.Int.{ints, clamps}
-use Rattle.std.proofs.lemmas.Bool.{cond_both, cond-true, ltb-true, false≢true}
+use Rattle.std.proofs.lemmas.Bool.{cond_both, cond-true, false≢true}
 use Rattle.graph.specs.Graph.{Case, Ranking, Within, Timetable, Selection, IsSelection, KeepsCase, KeepsArms, delay}
 use Rattle.graph.specs.Times.{AreLeast, least_times}
 use Rattle.graph.proofs.Raise.{worked_out}

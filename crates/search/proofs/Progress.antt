@@ -1,7 +1,7 @@
 -- A search goes on: it examines as many nodes as its budget says, unless it finishes. (Not part of `AlwaysSound`.)
-use Rattle.std.proofs.Common.{◌≡◌, ℕ, zero, suc, ◌+◌, ◌-◌, ◌^◌, ◌≤◌, Bool, true, false, cond, ltb, ◌⊎◌, List, [], ◌∷◌, ◌++◌, length, Some, None, Option, refl, ◌∙◌, inl, inr, arith}
+use Rattle.std.proofs.Common.{◌≡◌, ℕ, zero, suc, ◌+◌, ◌-◌, ◌^◌, ◌≤◌, true, ltb, ◌⊎◌, [], ◌∷◌, ◌++◌, length, Some, None, Option, refl, ◌∙◌, inl, inr, arith}
 use Rattle.std.proofs.lemmas.Bool.{cond_both}
-use Rattle.graph.specs.Graph.{Case, Ranking, Selection}
+use Rattle.graph.specs.Graph.{Case, Ranking}
 use Rattle.graph.specs.Times.{least_times}
 use Rattle.bounds.specs.Bounds.{Meaning}
 use Rattle.search.specs.Search.{Node, Plan, Planner, free, joined, after, cuts, better, moved_to, bound_at, examined, walked, searched}

@@ -1,5 +1,5 @@
 -- The calls of a planner, when they are refused, and what holds after any calls. Assumes nothing.
-use Rattle.std.specs.Prelude.{◌≡◌, ℕ, zero, suc, ◌+◌, ◌-◌, ◌^◌, ◌<◌, ◌≤◌, Bool, true, false, cond, not, ◌||◌, ◌⊎◌, List, [], ◌∷◌, ◌++◌, length, ℤ, pos, ◌≤ℤ◌, Some, None, Option, ◌==◌, ◌≢◌, nat_le, nat_lt, slice_index, slice_set}
+use Rattle.std.specs.Prelude.{◌≡◌, ℕ, ◌+◌, ◌-◌, ◌^◌, ◌<◌, ◌≤◌, true, cond, not, ◌||◌, ◌⊎◌, List, [], ◌∷◌, ◌++◌, length, pos, ◌≤ℤ◌, Some, None, Option, ◌==◌, ◌≢◌, nat_le, nat_lt, slice_index, slice_set}
 use Rattle.graph.specs.Faults.{Fault, fault}
 use Rattle.graph.specs.Graph.{Case, Ranking, IsRanking, Within, Timetable, Selection, KeepsCase, KeepsArms, delay}
 use Rattle.graph.specs.Times.{Least, NoCycle}

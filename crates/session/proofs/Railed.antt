@@ -1,5 +1,5 @@
 -- The message of a railway is accepted, and means the railway's case. Assumes nothing.
-use Rattle.std.proofs.Common.{◌≡◌, ℕ, true, List, sym, ap, ◌∙◌, subst}
+use Rattle.std.proofs.Common.{◌≡◌, ℕ, true, List, ap, ◌∙◌}
 use Rattle.messages.specs.Message.{message, message_case, message_fault}
 use Rattle.messages.specs.Told.{passes}
 use Rattle.messages.proofs.Messages.{reads_back_law}

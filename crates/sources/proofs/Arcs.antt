@@ -1,13 +1,13 @@
 -- A check that goes through the arcs of a case one by one.
-use Rattle.std.proofs.Common.{◌≡◌, ℕ, zero, suc, ◌+◌, ◌-◌, ◌*◌, ◌<◌, ◌≤◌, Bool, true, false, cond, eqb, leb, ◌⊎◌, List, [], ◌∷◌, ◌++◌, length, drop, Some, None, Option, sym, refl, ap, ◌∙◌, subst, ⊎_elim, arith}
+use Rattle.std.proofs.Common.{◌≡◌, ℕ, zero, suc, ◌+◌, ◌-◌, ◌*◌, ◌<◌, ◌≤◌, cond, eqb, leb, ◌⊎◌, List, [], ◌∷◌, length, drop, Some, None, Option, sym, refl, ap, ◌∙◌, ⊎_elim, arith}
 use Rattle.std.specs.List.{slice_get}
 use Rattle.std.proofs.lemmas.List.{drop_all}
 use Rattle.std.proofs.lemmas.Option.{slice_get_past}
 use Rattle.std.proofs.lemmas.Bool.{cond-false, ne_eqb}
-use Rattle.graph.specs.Faults.{Fault, fault, or_else}
+use Rattle.graph.specs.Faults.{Fault, or_else}
 use Rattle.graph.specs.Graph.{Arc, Pair, Case}
 use Rattle.messages.specs.Message.{arc_fault, fixed_fault, pairs_fault, arcs_fault}
-use Rattle.graph.specs.Views.{arm_of, arm_found, arm_at}
+use Rattle.graph.specs.Views.{arm_found, arm_at}
 
 -- lists
 

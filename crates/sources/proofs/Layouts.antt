@@ -1,12 +1,12 @@
 -- Where the arcs of a message stand.
-use Rattle.std.proofs.Common.{◌≡◌, ℕ, zero, suc, ◌+◌, ◌-◌, ◌*◌, ◌<◌, ◌≤◌, Bool, true, false, List, [], ◌∷◌, length, get_or, Some, None, Option, sym, refl, ap, ◌∙◌, arith}
+use Rattle.std.proofs.Common.{◌≡◌, ℕ, zero, suc, ◌+◌, ◌-◌, ◌*◌, ◌<◌, ◌≤◌, Bool, true, false, List, length, get_or, Some, None, Option, sym, refl, ap, ◌∙◌, arith}
 use Rattle.std.specs.List.{slice_get}
 use Rattle.std.proofs.lemmas.Bool.{true≢false}
 use Rattle.graph.specs.Faults.{Fault}
-use Rattle.graph.specs.Graph.{Arc, Pair, Case, empty_case}
+use Rattle.graph.specs.Graph.{Arc, Case, empty_case}
 use Rattle.messages.specs.Message.{arc_at, arcs_at, pairs_at, u16_at, contents, message_fault, message_case, unless_faulty}
-use Rattle.graph.specs.Views.{arm_of, arm_found, arm_at}
-use Rattle.messages.proofs.Messages.{Read, read, length_arcs, length_pairs}
+use Rattle.graph.specs.Views.{arm_found, arm_at}
+use Rattle.messages.proofs.Messages.{read, length_arcs, length_pairs}
 use Rattle.sources.specs.Laid.{LaidOut}
 use Rattle.messages.specs.Told.{passes}
 

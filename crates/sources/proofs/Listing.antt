@@ -1,12 +1,11 @@
 -- Cases that are listed.
-use Rattle.std.proofs.Common.{◌≡◌, ℕ, zero, suc, ◌+◌, ◌<◌, ◌≤◌, cond, List, [], ◌∷◌, map, length, get_or, Some, None, Option, sym, refl, ap, ◌∙◌, arith}
+use Rattle.std.proofs.Common.{◌≡◌, ℕ, zero, suc, ◌<◌, List, [], ◌∷◌, map, length, get_or, Some, None, Option, sym, refl, ap, ◌∙◌, arith}
 use Rattle.std.specs.List.{slice_get}
 use Rattle.std.proofs.lemmas.List.{length-map}
 use Rattle.graph.specs.Faults.{Fault}
-use Rattle.graph.specs.Graph.{Arc, Pair, Case}
+use Rattle.graph.specs.Graph.{Case}
 use Rattle.messages.specs.Message.{unless_faulty}
 use Rattle.graph.specs.Views.{arc_of, arm_found, arm_at}
-use Rattle.graph.specs.declared.arc.Arc.{Arc as ArcRecord}
 use Rattle.graph.specs.declared.arc.Pair.{Pair as PairRecord}
 use Rattle.graph.specs.Views.{pair_of}
 

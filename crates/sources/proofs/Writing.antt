@@ -1,10 +1,10 @@
 -- Writing pieces one after the other.
-use Rattle.std.proofs.Common.{◌≡◌, ℕ, zero, suc, ◌+◌, ◌-◌, ◌*◌, ◌<◌, ◌≤◌, List, [], ◌∷◌, ◌++◌, length, take, drop, Some, None, Option, sym, refl, ap, ◌∙◌, arith}
+use Rattle.std.proofs.Common.{◌≡◌, ℕ, zero, suc, ◌+◌, ◌*◌, ◌<◌, ◌≤◌, List, [], ◌∷◌, ◌++◌, length, take, drop, Option, sym, refl, ap, ◌∙◌, arith}
 use Rattle.std.specs.List.{slice_get}
 use Rattle.std.proofs.lemmas.List.{append_assoc, append-nil, length-append, length-take-le, take_at, take_all, drop_at, drop-drop, take-append-drop}
 use Rattle.graph.specs.Graph.{Arc, Pair, Case}
 use Rattle.messages.specs.Message.{arc_bytes, arcs_bytes, pairs_bytes, message}
-use Rattle.graph.specs.Views.{arm_found, arm_at}
+use Rattle.graph.specs.Views.{arm_at}
 use Rattle.messages.proofs.Messages.{length_arcs_bytes, length_pairs_bytes, message_length}
 use Rattle.messages.specs.declared.faults.MessageFault.TheVariants.{NoRoom}
 use Rattle.sources.specs.Written.{put_at, head_bytes, found_bytes, Taken, Refused}

@@ -1,6 +1,5 @@
 -- What a call that writes a message leaves. Assumes nothing.
 use Rattle.std.specs.Prelude.{◌≡◌, ℕ, ◌+◌, ◌*◌, ◌<◌, ◌≤◌, List, [], ◌∷◌, ◌++◌, length, take, drop, Some, None, Ok, Err, Option, Result}
-use Rattle.graph.specs.Faults.{Fault}
 use Rattle.graph.specs.Graph.{Arc, Case}
 use Rattle.messages.specs.Message.{u16_bytes, u32_bytes, arc_bytes, message}
 use Rattle.messages.specs.declared.faults.MessageFault.{MessageFault}

@@ -1,4 +1,4 @@
-use Rattle.std.proofs.Common.{ℕ, length, take, sym, refl, ap, ◌∙◌, subst, arith}
+use Rattle.std.proofs.Common.{ℕ, length, take, ap, ◌∙◌, arith}
 use Rattle.search.specs.Search.{free, bound_at}
 use Rattle.planner.proofs.Arms.{free_few}
 use Rattle.planner.proofs.Looks.{arms_small, bound_is, examined_cut, examined_branch, examined_full}

@@ -1,7 +1,7 @@
 use Rattle.std.proofs.Common.{ℕ, List, length, take, Option, sym, refl, ap, ◌∙◌}
 use Rattle.graph.specs.Times.{least_times}
 use Rattle.search.specs.Search.{better}
-use Rattle.planner.specs.View.{table_of, plan_of, replanned}
+use Rattle.planner.specs.View.{table_of, replanned}
 use Rattle.planner.proofs.Looks.{ended, none_ended}
 use Rattle.planner.proofs.walk.look.Goals as goal
 

@@ -1,4 +1,4 @@
-use Rattle.planner.proofs.Looks.{plan_shown, none_shown}
+use Rattle.planner.proofs.Looks.{plan_shown}
 use Rattle.planner.proofs.walk.show.Goals as goal
 
 pub returns-in-Some : goal.returns-in-Some

@@ -1,4 +1,4 @@
-use Rattle.std.proofs.Common.{ℕ, List, sym, refl, ap, ◌∙◌}
+use Rattle.std.proofs.Common.{sym, refl, ap}
 use Rattle.messages.specs.Message.{message_case}
 use Rattle.runs.proofs.Planning.{planned}
 use Rattle.runs.proofs.planned.plan_message.Goals as goal

@@ -1,5 +1,3 @@
-use Rattle.std.proofs.Common.{sym, subst}
-use Rattle.sources.specs.Laid.{LaidOut}
 use Rattle.sources.proofs.Layouts.{few_listed}
 use Rattle.sources.proofs.message.check_parts.Goals as goal
 

@@ -1,4 +1,4 @@
-use Rattle.std.proofs.Common.{length, refl, inl, inr, arith}
+use Rattle.std.proofs.Common.{refl, inl, inr, arith}
 use Rattle.search.specs.Sound.{to_hold}
 use Rattle.planner.specs.View.{view}
 use Rattle.planner.proofs.Making.{refused, accepted, hold_no_pair, hold_no_arm, hold_held, hold_taken}

@@ -1,4 +1,4 @@
-use Rattle.std.proofs.Common.{length, refl, ap, ◌∙◌, arith}
+use Rattle.std.proofs.Common.{length, refl, ap, ◌∙◌}
 use Rattle.search.specs.Search.{fresh}
 use Rattle.planner.proofs.Arms.{small_set, take_set}
 use Rattle.planner.proofs.calls.Planner.put.Goals as goal

@@ -1,4 +1,4 @@
-use Rattle.std.proofs.Common.{length, refl, arith}
+use Rattle.std.proofs.Common.{refl, arith}
 use Rattle.search.specs.Sound.{to_release}
 use Rattle.planner.specs.View.{view}
 use Rattle.planner.proofs.Making.{refused, accepted, release_no_pair, release_not_held, release_taken}

@@ -1,4 +1,4 @@
-use Rattle.std.proofs.Common.{length, sym, refl, ap, ◌∙◌, inl, inr, arith}
+use Rattle.std.proofs.Common.{length, refl, ◌∙◌, inl, inr, arith}
 use Rattle.search.specs.Sound.{to_search}
 use Rattle.planner.specs.View.{view}
 use Rattle.planner.proofs.Making.{refused, accepted, advanced, search_finished, search_budget, search_places, search_taken}

@@ -1,4 +1,4 @@
-use Rattle.std.proofs.Common.{◌≡◌, ◌<◌, ◌∙◌, arith}
+use Rattle.std.proofs.Common.{arith}
 use Rattle.messages.specs.Message.{u16_at}
 use Rattle.graph.specs.Views.{arc_of}
 use Rattle.messages.proofs.Messages.{length_arcs}

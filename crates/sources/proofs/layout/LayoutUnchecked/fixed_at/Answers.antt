@@ -1,5 +1,4 @@
-use Rattle.std.proofs.Common.{◌<◌, arith}
-use Rattle.messages.specs.Message.{u16_at}
+use Rattle.std.proofs.Common.{arith}
 use Rattle.graph.specs.Views.{arc_of}
 use Rattle.sources.proofs.Layouts.{fixed_below, fixed_found}
 use Rattle.sources.proofs.layout.LayoutUnchecked.fixed_at.Goals as goal

@@ -1,4 +1,4 @@
-use Rattle.std.proofs.Common.{◌+◌, ◌*◌, get_or, sym, ◌∙◌}
+use Rattle.std.proofs.Common.{◌+◌, ◌*◌, get_or, sym}
 use Rattle.messages.specs.Message.{u16_at}
 use Rattle.messages.proofs.Messages.{length_pairs}
 use Rattle.sources.proofs.layout.LayoutUnchecked.pairs_len.Goals as goal

@@ -1,4 +1,4 @@
-use Rattle.std.proofs.Common.{◌<◌, length, sym, arith, rules}
+use Rattle.std.proofs.Common.{◌<◌, length, sym, rules}
 use Rattle.graph.specs.Views.{arc_of}
 use Rattle.sources.proofs.Listing.{nth_map, below_mapped}
 use Rattle.sources.proofs.listed.ListsUnchecked.fixed_at.Goals as goal
