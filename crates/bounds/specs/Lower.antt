@@ -1,7 +1,7 @@
 -- The longest path and looking ahead are lower bounds, and so is the larger of two lower bounds. Assumes nothing.
 use Rattle.std.specs.Prelude.{◌≡◌, ℕ, zero, suc, ◌+◌, ◌<◌, ◌≤◌, cond, ◌⊎◌, List, [], ◌∷◌, ◌++◌, length, ℤ, Some, None, Option, ◌==◌, slice_index, slice_set}
 use Rattle.std.proofs.Common.{◌∙◌, inl, inr, arith}
-use Rattle.std.specs.List.{AllByRecursion as All}
+use Rattle.std.specs.List.{AllByRecursion}
 use Rattle.std.proofs.ByRecursion.{All-append, All-set}
 use Rattle.std.proofs.lemmas.List.{length-set}
 use Rattle.std.proofs.lemmas.Int.{ints, clamps}
@@ -48,7 +48,7 @@ larger_lower m k f g c s r w i b t keeps arms = larger_both (m c s r) (k c s r) 
 pub longest_lower : LowerBound longest_path
 longest_lower c s r w i b t k a = go (least_times r c s) (worked_out r c s w)
   where
-    kept : All (Keeps r t) (arcs c s)
+    kept : AllByRecursion (Keeps r t) (arcs c s)
     kept = All-append (Keeps r t) c.fixed (selected s c.pairs) k.keeps_fixed a
 
     go : (o : Option (List ℕ)) → AreLeast r c s o → AtMost (end_of c.end o) (delay c t)
@@ -57,24 +57,24 @@ longest_lower c s r w i b t k a = go (least_times r c s) (worked_out r c s w)
 
 -- ---- looking ahead
 
-all_left : {X : Type 0} (P : X → Type 0) (xs ys : List X) → All P (xs ++ ys) → All P xs
+all_left : {X : Type 0} (P : X → Type 0) (xs ys : List X) → AllByRecursion P (xs ++ ys) → AllByRecursion P xs
 all_left P [] ys h = tt
 all_left P (x ∷ xs) ys h = (h.0, all_left P xs ys h.1)
 
-all_right : {X : Type 0} (P : X → Type 0) (xs ys : List X) → All P (xs ++ ys) → All P ys
+all_right : {X : Type 0} (P : X → Type 0) (xs ys : List X) → AllByRecursion P (xs ++ ys) → AllByRecursion P ys
 all_right P [] ys h = h
 all_right P (x ∷ xs) ys h = all_right P xs ys h.1
 
 -- what keeps the selected arms, and an arm of each pair, keeps them with one of the two arms of pair j in place of its own
-either_kept : (K : Arc → Type 0) (ps : List Pair) (s : Selection) (j : ℕ) → length s ≡ length ps → All (λ p. K p.first ⊎ K p.second) ps → All K (selected s ps) → j < length ps
-    → All K (selected (slice_set s j 1) ps) ⊎ All K (selected (slice_set s j 2) ps)
+either_kept : (K : Arc → Type 0) (ps : List Pair) (s : Selection) (j : ℕ) → length s ≡ length ps → AllByRecursion (λ p. K p.first ⊎ K p.second) ps → AllByRecursion K (selected s ps) → j < length ps
+    → AllByRecursion K (selected (slice_set s j 1) ps) ⊎ AllByRecursion K (selected (slice_set s j 2) ps)
 either_kept K [] s j e h k l = absurd (omega arith)
 either_kept K (p ∷ ps) [] j e h k l = absurd (omega arith)
 either_kept K (p ∷ ps) (a ∷ s) zero e h k l =
-    let r : All K (selected s ps) = all_right K (chosen a p) (selected s ps) k in
+    let r : AllByRecursion K (selected s ps) = all_right K (chosen a p) (selected s ps) k in
     elim h.0 [ inl f ↦ inl (f, r) | inr f ↦ inr (f, r) ]
 either_kept K (p ∷ ps) (a ∷ s) (suc j) e h k l =
-    let q : All K (chosen a p) = all_left K (chosen a p) (selected s ps) k in
+    let q : AllByRecursion K (chosen a p) = all_left K (chosen a p) (selected s ps) k in
     elim (either_kept K ps s j (omega arith) h.1 (all_right K (chosen a p) (selected s ps) k) (omega arith)) [
       | inl f ↦ inl (All-append K (chosen a p) (selected (slice_set s j 1) ps) q f)
       | inr f ↦ inr (All-append K (chosen a p) (selected (slice_set s j 2) ps) q f)

@@ -1,6 +1,6 @@
 -- The places of a case, and the arcs that stand there. Assumes nothing.
 use Rattle.std.proofs.Common.{◌≡◌, ℕ, zero, suc, ◌+◌, ◌-◌, ◌<◌, ◌≤◌, cond, eqb, leb, List, [], ◌∷◌, ◌++◌, map, length, get_or, take, Some, None, Option, sym, refl, ap, ◌∙◌, subst, append_assoc, arith}
-use Rattle.std.specs.List.{AllByRecursion as All, slice_get}
+use Rattle.std.specs.List.{AllByRecursion, slice_get}
 use Rattle.std.proofs.ByRecursion.{All-append, All-get_or, All-map}
 use Rattle.std.proofs.lemmas.List.{length-append, length-map, take_more, append-nil, get_or-append_right}
 use Rattle.std.proofs.lemmas.Bool.{cond_both}
@@ -80,18 +80,18 @@ arm_within n a p f g =
     cond_both (eqb a 1) (Some p.first) (cond (eqb a 2) (Some p.second) None) (WithinIf n) (λ e. f)
     (λ e. cond_both (eqb a 2) (Some p.second) None (WithinIf n) (λ e. g) (λ e. tt))
 
-arms_within : (n : ℕ) (ps : List Pair) (s : List ℕ) → All (λ p. ArcWithin n p.first) ps → All (λ p. ArcWithin n p.second) ps → All (WithinIf n) (arms_of ps s)
+arms_within : (n : ℕ) (ps : List Pair) (s : List ℕ) → AllByRecursion (λ p. ArcWithin n p.first) ps → AllByRecursion (λ p. ArcWithin n p.second) ps → AllByRecursion (WithinIf n) (arms_of ps s)
 arms_within n [] s f g = tt
 arms_within n (p ∷ ps) [] f g = (tt, arms_within n ps [] f.1 g.1)
 arms_within n (p ∷ ps) (a ∷ s) f g = (arm_within n a p f.0 g.0, arms_within n ps s f.1 g.1)
 
-pub places_within : (c : Case) (s : List ℕ) → Within c → All (WithinIf c.end) (places c s)
+pub places_within : (c : Case) (s : List ℕ) → Within c → AllByRecursion (WithinIf c.end) (places c s)
 places_within c s w = All-append (WithinIf c.end) (map Some c.fixed) (arms_of c.pairs s) (All-map (WithinIf c.end) Some c.fixed w.fixed_within) (arms_within c.end c.pairs s w.first_within w.second_within)
 
 pub place_within : (c : Case) (s : List ℕ) (i : ℕ) (a : Arc) → Within c → i < length c.fixed + length c.pairs → Some a ≡ get_or (places c s) i None → ArcWithin c.end a
 place_within c s i a w h e = subst (WithinIf c.end) (sym e) (All-get_or (WithinIf c.end) (places c s) i None (omega (arith, length_places c s)) (places_within c s w))
 
-pub present_within : (n : ℕ) (os : List (Option Arc)) → All (WithinIf n) os → All (ArcWithin n) (present os)
+pub present_within : (n : ℕ) (os : List (Option Arc)) → AllByRecursion (WithinIf n) os → AllByRecursion (ArcWithin n) (present os)
 present_within n [] h = tt
 present_within n (None ∷ os) h = present_within n os h.1
 present_within n (Some a ∷ os) h = (h.0, present_within n os h.1)

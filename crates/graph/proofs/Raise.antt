@@ -1,7 +1,7 @@
 -- Raising over arcs: it settles on the least times, or it finds a cycle that sums above 0. Assumes nothing.
 use Rattle.std.proofs.Common.{◌≡◌, ℕ, zero, suc, ◌+◌, ◌<◌, ◌≤◌, max, Bool, true, false, cond, ◌&&◌, T, eqb, ◌≢◌, ◌⊎◌, List, [], ◌∷◌, length, get_or, set, replicate, ℤ, pos, negsuc, ◌+ℤ◌, ◌≤ℤ◌, ◌<ℤ◌, Some, None, Option, sym, refl, ap, ◌∙◌, subst, inl, inr, arith}
 use lib.Signed.{le_z}
-use Rattle.std.specs.List.{ContainsAt as Has, AllByRecursion as All}
+use Rattle.std.specs.List.{ContainsAt, AllByRecursion}
 use Rattle.std.proofs.lemmas.List.{length-set, length-replicate, get_or-replicate, get_or-set_same, get_or-set_other, set-get_or}
 use Rattle.std.proofs.ByRecursion.{All-append, all-has, All-weaker, all_has_itself}
 use Rattle.std.proofs.lemmas.Int.{ints, by_lt_z}
@@ -11,12 +11,12 @@ use Rattle.graph.specs.Times.{Least, Path, here, along, from_start, NoCycle, Lon
 
 -- ---- a path under a timetable that keeps the arcs
 
-pub walk : (r : Ranking) (c : Case) (s : Selection) (t : Timetable) → t 0 ≡ 0 → All (Keeps r t) (arcs c s) → {u v : ℕ} {z : ℤ} → Path r c s u v z → (pos (t u) +ℤ z) ≤ℤ pos (t v)
+pub walk : (r : Ranking) (c : Case) (s : Selection) (t : Timetable) → t 0 ≡ 0 → AllByRecursion (Keeps r t) (arcs c s) → {u v : ℕ} {z : ℤ} → Path r c s u v z → (pos (t u) +ℤ z) ≤ℤ pos (t v)
 walk r c s t o k (here i) = omega (arith, ints)
 walk r c s t o k (along p a h e) = omega (arith, ints, walk r c s t o k p, ap t e, all-has (Keeps r t) (arcs c s) a k h)
 walk r c s t o k (from_start p v i) = omega (arith, ints, walk r c s t o k p, o)
 
-pub no_cycle : (r : Ranking) (c : Case) (s : Selection) (t : Timetable) → t 0 ≡ 0 → All (Keeps r t) (arcs c s) → NoCycle r c s
+pub no_cycle : (r : Ranking) (c : Case) (s : Selection) (t : Timetable) → t 0 ≡ 0 → AllByRecursion (Keeps r t) (arcs c s) → NoCycle r c s
 no_cycle r c s t o k v z p = omega (arith, ints, walk r c s t o k p)
 
 -- ---- numbers in order, from `low` to below `high`
@@ -30,9 +30,9 @@ few low high [] b = omega arith
 few low high (w ∷ ws) b = omega (arith, few (suc w) high ws b.1)
 
 abbrev Inserted : (ℕ → Type 0) → ℕ → ℕ → ℕ → Type 0
-Inserted Q n low high = (ws : List ℕ) × Between low high ws × (suc n ≤ length ws) × All Q ws
+Inserted Q n low high = (ws : List ℕ) × Between low high ws × (suc n ≤ length ws) × AllByRecursion Q ws
 
-insert : (P Q : ℕ → Type 0) → ((w : ℕ) → P w → Q w) → (v : ℕ) → Q v → (n low high : ℕ) (ws : List ℕ) → Between low high ws → n ≤ length ws → All P ws → low ≤ v → v < high → P v ⊎ Inserted Q n low high
+insert : (P Q : ℕ → Type 0) → ((w : ℕ) → P w → Q w) → (v : ℕ) → Q v → (n low high : ℕ) (ws : List ℕ) → Between low high ws → n ≤ length ws → AllByRecursion P ws → low ≤ v → v < high → P v ⊎ Inserted Q n low high
 insert P Q i v q n low high [] b l a h k = inr (v ∷ [], (h, k), omega arith, (q, tt))
 insert P Q i v q n low high (w ∷ ws) b l a h k =
     elim (cases_order v w) [
@@ -49,27 +49,27 @@ insert P Q i v q n low high (w ∷ ws) b l a h k =
 -- ---- the arcs of a selection
 
 pub record Known (c : Case) (s : Selection) (a : Arc) : Type 0 where
-  pub has : Has (arcs c s) a
+  pub has : ContainsAt (arcs c s) a
   pub from_known : a.from ≤ c.end
   pub to_known : a.to ≤ c.end
 
-chosen_within : (n k : ℕ) (p : Pair) → ArcWithin n p.first → ArcWithin n p.second → All (ArcWithin n) (chosen k p)
+chosen_within : (n k : ℕ) (p : Pair) → ArcWithin n p.first → ArcWithin n p.second → AllByRecursion (ArcWithin n) (chosen k p)
 chosen_within n k p f g =
-    cond_both (eqb k 1) (p.first ∷ []) (cond (eqb k 2) (p.second ∷ []) []) (All (ArcWithin n)) (λ e. (f, tt))
-    (λ e. cond_both (eqb k 2) (p.second ∷ []) [] (All (ArcWithin n)) (λ e. (g, tt)) (λ e. tt))
+    cond_both (eqb k 1) (p.first ∷ []) (cond (eqb k 2) (p.second ∷ []) []) (AllByRecursion (ArcWithin n)) (λ e. (f, tt))
+    (λ e. cond_both (eqb k 2) (p.second ∷ []) [] (AllByRecursion (ArcWithin n)) (λ e. (g, tt)) (λ e. tt))
 
-selected_within : (n : ℕ) (s : Selection) (ps : List Pair) → All (λ p. ArcWithin n p.first) ps → All (λ p. ArcWithin n p.second) ps → All (ArcWithin n) (selected s ps)
+selected_within : (n : ℕ) (s : Selection) (ps : List Pair) → AllByRecursion (λ p. ArcWithin n p.first) ps → AllByRecursion (λ p. ArcWithin n p.second) ps → AllByRecursion (ArcWithin n) (selected s ps)
 selected_within n [] ps f g = tt
 selected_within n (a ∷ s) [] f g = tt
 selected_within n (a ∷ s) (p ∷ ps) f g = All-append (ArcWithin n) (chosen a p) (selected s ps) (chosen_within n a p f.0 g.0) (selected_within n s ps f.1 g.1)
 
-both : {X : Type 0} (P Q R : X → Type 0) → ((x : X) → P x → Q x → R x) → (xs : List X) → All P xs → All Q xs → All R xs
+both : {X : Type 0} (P Q R : X → Type 0) → ((x : X) → P x → Q x → R x) → (xs : List X) → AllByRecursion P xs → AllByRecursion Q xs → AllByRecursion R xs
 both P Q R f [] a b = tt
 both P Q R f (x ∷ xs) a b = (f x a.0 b.0, both P Q R f xs a.1 b.1)
 
-all_known : (c : Case) (s : Selection) → Within c → All (Known c s) (arcs c s)
+all_known : (c : Case) (s : Selection) → Within c → AllByRecursion (Known c s) (arcs c s)
 all_known c s w =
-    both (Has (arcs c s)) (ArcWithin c.end) (Known c s) (λ a h i. record { has = h; from_known = i.from_known; to_known = i.to_known }) (arcs c s)
+    both (ContainsAt (arcs c s)) (ArcWithin c.end) (Known c s) (λ a h i. record { has = h; from_known = i.from_known; to_known = i.to_known }) (arcs c s)
     (all_has_itself (arcs c s))
     (All-append (ArcWithin c.end) c.fixed (selected s c.pairs) w.fixed_within (selected_within c.end s c.pairs w.first_within w.second_within))
 
@@ -142,7 +142,7 @@ record Chain (r : Ranking) (c : Case) (s : Selection) (ts : List ℕ) (v n : ℕ
   events : List ℕ
   ordered : Between 0 (c.end + 1) events
   many : n ≤ length events
-  reach : All (Reaches r c s ts v) events
+  reach : AllByRecursion (Reaches r c s ts v) events
 
 -- kept, or its start is the end of a long chain
 abbrev Open : Ranking → Case → Selection → ℕ → List ℕ → Arc → Type 0
@@ -227,9 +227,9 @@ module _ (r : Ranking) (c : Case) (s : Selection) where
 
   -- over all the arcs, once
   RaisedAll : ℕ → List ℕ → List Arc → List ℕ → Type 0
-  RaisedAll n ts es us = ((m : ℕ) (a : Arc) → m ≤ suc n → Open r c s m ts a → Open r c s m us a) × All (Open r c s (suc n) us) es × Sound r c s us
+  RaisedAll n ts es us = ((m : ℕ) (a : Arc) → m ≤ suc n → Open r c s m ts a → Open r c s m us a) × AllByRecursion (Open r c s (suc n) us) es × Sound r c s us
 
-  raise_all : (es : List Arc) (ts : List ℕ) (n : ℕ) → All (Known c s) es → Sound r c s ts → All (Open r c s n ts) es → PositiveCycle r c s ⊎ RaisedAll n ts es (raised r ts es)
+  raise_all : (es : List Arc) (ts : List ℕ) (n : ℕ) → AllByRecursion (Known c s) es → Sound r c s ts → AllByRecursion (Open r c s n ts) es → PositiveCycle r c s ⊎ RaisedAll n ts es (raised r ts es)
   unfolding Raised RaisedAll
   raise_all [] ts n k d o = inr ((λ m a l q. q), tt, d)
   raise_all (b ∷ es) ts n k d o =
@@ -242,8 +242,8 @@ module _ (r : Ranking) (c : Case) (s : Selection) where
       ]
 
   -- k rounds
-  raise_rounds : (k : ℕ) (es : List Arc) (ts : List ℕ) (n : ℕ) → All (Known c s) es → Sound r c s ts → All (Open r c s n ts) es
-      → PositiveCycle r c s ⊎ ((m : ℕ) × (m ≡ n + k) × All (Open r c s m (rounds r es k ts)) es × Sound r c s (rounds r es k ts))
+  raise_rounds : (k : ℕ) (es : List Arc) (ts : List ℕ) (n : ℕ) → AllByRecursion (Known c s) es → Sound r c s ts → AllByRecursion (Open r c s n ts) es
+      → PositiveCycle r c s ⊎ ((m : ℕ) × (m ≡ n + k) × AllByRecursion (Open r c s m (rounds r es k ts)) es × Sound r c s (rounds r es k ts))
   unfolding RaisedAll
   raise_rounds zero es ts n k d o = inr (n, omega arith, o, d)
   raise_rounds (suc j) es ts n k d o =
@@ -256,7 +256,7 @@ module _ (r : Ranking) (c : Case) (s : Selection) where
       ]
 
   -- a chain through all the events cannot grow
-  settled : (es : List Arc) (ts : List ℕ) (m : ℕ) → m ≡ 1 + c.end → All (Known c s) es → All (Open r c s m ts) es → PositiveCycle r c s ⊎ All (Keeps r (time_of ts)) es
+  settled : (es : List Arc) (ts : List ℕ) (m : ℕ) → m ≡ 1 + c.end → AllByRecursion (Known c s) es → AllByRecursion (Open r c s m ts) es → PositiveCycle r c s ⊎ AllByRecursion (Keeps r (time_of ts)) es
   settled [] ts m e k o = inr tt
   settled (a ∷ es) ts m e k o =
       elim (settled es ts m e k.1 o.1) [
@@ -275,7 +275,7 @@ module _ (r : Ranking) (c : Case) (s : Selection) where
   record Ending : Type 0 where
     sound : Sound r c s (last r c s)
     starts : get_or (last r c s) 0 0 ≡ 0
-    keeps : All (Keeps r (time_of (last r c s))) (arcs c s)
+    keeps : AllByRecursion (Keeps r (time_of (last r c s))) (arcs c s)
 
   zero_or_cycle : (n : ℕ) → Path r c s 0 0 (pos n) → PositiveCycle r c s ⊎ (n ≡ 0)
   zero_or_cycle zero p = inr refl
@@ -283,7 +283,7 @@ module _ (r : Ranking) (c : Case) (s : Selection) where
 
   ends : Within c → PositiveCycle r c s ⊎ Ending
   ends w =
-      let k : All (Known c s) (arcs c s) = all_known c s w in
+      let k : AllByRecursion (Known c s) (arcs c s) = all_known c s w in
       elim (raise_rounds c.end (arcs c s) (replicate (c.end + 1) 0) 1 k (sound_start r c s)
       (All-weaker (Known c s) (Open r c s 1 (replicate (c.end + 1) 0)) (λ a h. inr (chain_start (replicate (c.end + 1) 0) a.from h.from_known)) (arcs c s) k)) [
         | inl p ↦ inl p
@@ -302,13 +302,13 @@ true_from : (b : Bool) → T b → b ≡ true
 true_from true t = refl
 true_from false t = absurd t
 
-kept_from : (r : Ranking) (ts : List ℕ) (es : List Arc) → kept_all r ts es ≡ true → All (Keeps r (time_of ts)) es
+kept_from : (r : Ranking) (ts : List ℕ) (es : List Arc) → kept_all r ts es ≡ true → AllByRecursion (Keeps r (time_of ts)) es
 kept_from r ts [] e = tt
 kept_from r ts (a ∷ es) e =
     let p = and_parts (le_z (pos (get_or ts a.from 0) +ℤ r a.weight a.mark) (pos (get_or ts a.to 0))) (kept_all r ts es) e in
     (record { le = subst T (sym p.0) tt }, kept_from r ts es p.1)
 
-kept_to : (r : Ranking) (ts : List ℕ) (es : List Arc) → All (Keeps r (time_of ts)) es → kept_all r ts es ≡ true
+kept_to : (r : Ranking) (ts : List ℕ) (es : List Arc) → AllByRecursion (Keeps r (time_of ts)) es → kept_all r ts es ≡ true
 kept_to r ts [] k = refl
 kept_to r ts (a ∷ es) k =
     and_from (le_z (pos (get_or ts a.from 0) +ℤ r a.weight a.mark) (pos (get_or ts a.to 0))) (kept_all r ts es)
@@ -317,21 +317,21 @@ kept_to r ts (a ∷ es) k =
 -- ---- the laws
 
 module _ (r : Ranking) (c : Case) (s : Selection) where
-  is_least : (ts : List ℕ) → Sound r c s ts → get_or ts 0 0 ≡ 0 → All (Keeps r (time_of ts)) (arcs c s) → Least r c s (time_of ts)
+  is_least : (ts : List ℕ) → Sound r c s ts → get_or ts 0 0 ≡ 0 → AllByRecursion (Keeps r (time_of ts)) (arcs c s) → Least r c s (time_of ts)
   is_least ts d o k = record {
     starts = o;
     keeps = k;
     least = λ u z q v i. omega (arith, ints, walk r c s u z q (d.paths v i), z);
   }
 
-  no_positive : (t : Timetable) → t 0 ≡ 0 → All (Keeps r t) (arcs c s) → PositiveCycle r c s → ⊥
+  no_positive : (t : Timetable) → t 0 ≡ 0 → AllByRecursion (Keeps r t) (arcs c s) → PositiveCycle r c s → ⊥
   no_positive t o k p = omega (arith, ints, no_cycle r c s t o k p.0 p.1 p.2, p.3)
 
-  sound_rounds : (k : ℕ) (es : List Arc) (ts : List ℕ) → All (Known c s) es → Sound r c s ts → Sound r c s (rounds r es k ts)
+  sound_rounds : (k : ℕ) (es : List Arc) (ts : List ℕ) → AllByRecursion (Known c s) es → Sound r c s ts → Sound r c s (rounds r es k ts)
   sound_rounds zero es ts h d = d
   sound_rounds (suc k) es ts h d = sound_rounds k es (raised r ts es) h (go es ts h d)
     where
-      go : (es : List Arc) (ts : List ℕ) → All (Known c s) es → Sound r c s ts → Sound r c s (raised r ts es)
+      go : (es : List Arc) (ts : List ℕ) → AllByRecursion (Known c s) es → Sound r c s ts → Sound r c s (raised r ts es)
       go [] ts h d = d
       go (a ∷ es) ts h d = go es (raised_by r ts a) h.1 (sound_by r c s ts a h.0 d)
 

@@ -1,7 +1,7 @@
 -- Rounds under way, and what they end in.
 use Rattle.std.proofs.Common.{◌≡◌, ℕ, zero, suc, ◌+◌, ◌-◌, ◌*◌, ◌^◌, ◌<◌, ◌≤◌, Bool, true, false, cond, not, ◌&&◌, eqb, List, length, get_or, drop, replicate, ℤ, pos, is_some as option_is_some, Some, None, sym, refl, ap, ◌∙◌, subst, arith}
 use lib.Signed.{lt_z}
-use Rattle.std.specs.List.{AllByRecursion as All}
+use Rattle.std.specs.List.{AllByRecursion}
 use Rattle.std.proofs.ByRecursion.{All-weaker}
 use Rattle.std.proofs.lemmas.List.{length-replicate}
 use Rattle.std.proofs.lemmas.Bool.Decides.{nat_tests}
@@ -19,13 +19,13 @@ pub record Settling {V : Type 0} (rank : V → ℤ) (r : Ranking) (c : Case) (s 
   pub shown : Shows rank now (rounds r (arcs_of c s) k (replicate (c.end + 1) 0))
   pub behind : drop (c.end + 1) now ≡ drop (c.end + 1) first
 
-all_zero : (b n : ℕ) → All (λ t. t ≤ b) (replicate n 0)
+all_zero : (b n : ℕ) → AllByRecursion (λ t. t ≤ b) (replicate n 0)
 all_zero b zero = tt
 all_zero b (suc n) = (omega arith, all_zero b n)
 
 module _ (r : Ranking) (bounded : IsRanking r) (c : Case) (w : Within c) (s : List ℕ) where
-  arcs_within : All (ArcWithin c.end) (arcs_of c s)
-  arcs_within = subst (All (ArcWithin c.end)) (present_places c s) (present_within c.end (places c s) (places_within c s w))
+  arcs_within : AllByRecursion (ArcWithin c.end) (arcs_of c s)
+  arcs_within = subst (AllByRecursion (ArcWithin c.end)) (present_places c s) (present_within c.end (places c s) (places_within c s w))
 
   few_arcs : length (arcs_of c s) ≤ 2108
   few_arcs = omega (arith, ap length (present_places c s), length_present (places c s), length_places c s, w.few_fixed, w.few_pairs)
@@ -34,7 +34,7 @@ module _ (r : Ranking) (bounded : IsRanking r) (c : Case) (w : Within c) (s : Li
   length_rounds zero ts = refl
   length_rounds (suc k) ts = length_rounds k (raised r ts (arcs_of c s)) ∙ length_raised r bounded ts (arcs_of c s)
 
-  low_rounds : (b k : ℕ) (ts : List ℕ) → length ts ≡ c.end + 1 → All (λ t. t ≤ b) ts → All (λ t. t ≤ b + k * (2108 * 2 ^ 31)) (rounds r (arcs_of c s) k ts)
+  low_rounds : (b k : ℕ) (ts : List ℕ) → length ts ≡ c.end + 1 → AllByRecursion (λ t. t ≤ b) ts → AllByRecursion (λ t. t ≤ b + k * (2108 * 2 ^ 31)) (rounds r (arcs_of c s) k ts)
   low_rounds b zero ts e l = All-weaker (λ t. t ≤ b) (λ t. t ≤ b + zero * (2108 * 2 ^ 31)) (λ t h. omega arith) ts l
   low_rounds b (suc k) ts e l =
       All-weaker (λ t. t ≤ (b + 2108 * 2 ^ 31) + k * (2108 * 2 ^ 31)) (λ t. t ≤ b + suc k * (2108 * 2 ^ 31)) (λ t h. omega arith) (rounds r (arcs_of c s) k (raised r ts (arcs_of c s)))

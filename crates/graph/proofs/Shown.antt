@@ -1,7 +1,7 @@
 -- Values that show times, and what a raise does to both. Assumes nothing.
 use Rattle.std.proofs.Common.{◌≡◌, ℕ, zero, suc, ◌+◌, ◌*◌, ◌^◌, ◌<◌, ◌≤◌, max, Bool, true, false, not, ◌&&◌, List, [], ◌∷◌, ◌++◌, length, get_or, set, replicate, ℤ, pos, negsuc, ◌+ℤ◌, ◌≤ℤ◌, sym, refl, ap, ◌∙◌, subst, add-one, arith, w32, to_z, of_z}
 use lib.Signed.{lt_z, le_z}
-use Rattle.std.specs.List.{AllByRecursion as All}
+use Rattle.std.specs.List.{AllByRecursion}
 use Rattle.std.proofs.ByRecursion.{All-set, All-get_or, All-weaker}
 use Rattle.std.proofs.lemmas.List.{length-set, set-get_or}
 use Rattle.std.proofs.lemmas.Int.{ints}
@@ -86,7 +86,7 @@ module _ {V : Type 0} (rank : V → ℤ) (r : Ranking) (bounded : IsRanking r) (
 -- ---- how far raises go
 
 module _ (r : Ranking) (bounded : IsRanking r) where
-  pub low_by : (b n : ℕ) (a : Arc) (ts : List ℕ) → ArcWithin n a → a.from < length ts → a.to < length ts → All (λ t. t ≤ b) ts → All (λ t. t ≤ b + 2 ^ 31) (raised_by r ts a)
+  pub low_by : (b n : ℕ) (a : Arc) (ts : List ℕ) → ArcWithin n a → a.from < length ts → a.to < length ts → AllByRecursion (λ t. t ≤ b) ts → AllByRecursion (λ t. t ≤ b + 2 ^ 31) (raised_by r ts a)
   low_by b n a ts w f t l =
       let hi = bounded.high a.weight a.mark w.not_below w.not_above w.marked in
       All-set (λ t. t ≤ b + 2 ^ 31) ts a.to _
@@ -102,7 +102,7 @@ module _ (r : Ranking) (bounded : IsRanking r) where
   length_raised ts (a ∷ es) = length_raised (raised_by r ts a) es ∙ length-set ts a.to _
 
   -- at most k arcs, each within the limits
-  pub low_raised : (n k b : ℕ) (ts : List ℕ) (es : List Arc) → length ts ≡ n + 1 → length es ≤ k → All (ArcWithin n) es → All (λ t. t ≤ b) ts → All (λ t. t ≤ b + k * 2 ^ 31) (raised r ts es)
+  pub low_raised : (n k b : ℕ) (ts : List ℕ) (es : List Arc) → length ts ≡ n + 1 → length es ≤ k → AllByRecursion (ArcWithin n) es → AllByRecursion (λ t. t ≤ b) ts → AllByRecursion (λ t. t ≤ b + k * 2 ^ 31) (raised r ts es)
   low_raised n k b ts [] e h w l = All-weaker (λ t. t ≤ b) (λ t. t ≤ b + k * 2 ^ 31) (λ t h. omega arith) ts l
   low_raised n zero b ts (a ∷ es) e h w l = absurd (omega arith)
   low_raised n (suc k) b ts (a ∷ es) e h w l =

@@ -1,6 +1,6 @@
 -- The steps by which least times are worked out, for the contracts of functions inside the crate. Assumes nothing.
 use Rattle.std.specs.Prelude.{◌≡◌, ℕ, ◌+◌, ◌^◌, ◌<◌, ◌≤◌, Bool, false, List, [], ◌∷◌, ◌++◌, map, length, drop, replicate, ℤ, is_some, Some, None, Option}
-use Rattle.std.specs.List.{AllByRecursion as All}
+use Rattle.std.specs.List.{AllByRecursion}
 use Rattle.graph.specs.Graph.{Arc, Pair, Case, ArcWithin, Ranking, selection_of, arcs}
 use Rattle.graph.specs.Times.{raised_by, rounds, least_times}
 use Rattle.graph.specs.Times as Times
@@ -29,12 +29,12 @@ pub record Raisable (end : ℕ) (a : Arc) (ts : List ℕ) : Type 0 where
   pub within : ArcWithin end a
   pub from_shown : a.from < length ts
   pub to_shown : a.to < length ts
-  pub low : All (λ t. t ≤ 2 ^ 59) ts
+  pub low : AllByRecursion (λ t. t ≤ 2 ^ 59) ts
 
 -- times that a round can raise with no sum out of range
 pub record Ready (end : ℕ) (ts : List ℕ) : Type 0 where
   pub len : length ts ≡ end + 1
-  pub low : All (λ t. t ≤ 2 ^ 58) ts
+  pub low : AllByRecursion (λ t. t ≤ 2 ^ 58) ts
 
 -- a raise by one arc: of shown times, while sums stay in range; where nothing changed, nothing was written; nothing behind the arc's end is written
 pub record ArcRaised {V : Type 0} (rank : V → ℤ) (r : Ranking) (a : Arc) (before after : List V) (changed : Bool) : Type 0 where

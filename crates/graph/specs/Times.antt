@@ -1,18 +1,18 @@
 -- Least times. Assumes nothing.
 use Rattle.std.specs.Prelude.{◌≡◌, ℕ, zero, suc, ◌+◌, ◌≤◌, max, Bool, true, cond, ◌&&◌, List, [], ◌∷◌, length, replicate, ℤ, pos, negsuc, ◌+ℤ◌, ◌≤ℤ◌, Some, None, Option, ◌==◌, int_le, slice_index, slice_set}
-use Rattle.std.specs.List.{ContainsAt as Has, AllByRecursion as All}
+use Rattle.std.specs.List.{ContainsAt, AllByRecursion}
 use Rattle.graph.specs.Graph.{Arc, Case, Ranking, Timetable, Selection, Keeps, arcs}
 
 -- the smallest ranks that keep the fixed arcs and the selected arms
 pub record Least (r : Ranking) (c : Case) (s : Selection) (t : Timetable) : Type 0 where
   pub starts : t 0 ≡ 0
-  pub keeps : All (Keeps r t) (arcs c s)
-  pub least : (u : Timetable) → u 0 ≡ 0 → All (Keeps r u) (arcs c s) → (v : ℕ) → v ≤ c.end → t v ≤ u v
+  pub keeps : AllByRecursion (Keeps r t) (arcs c s)
+  pub least : (u : Timetable) → u 0 ≡ 0 → AllByRecursion (Keeps r u) (arcs c s) → (v : ℕ) → v ≤ c.end → t v ≤ u v
 
 -- a path along the fixed arcs and the selected arms, with the sum of its ranks; an arc of rank 0 leads from event 0 to each event
 pub data Path (r : Ranking) (c : Case) (s : Selection) : ℕ → ℕ → ℤ → Type 0 where
   here : {v : ℕ} → v ≤ c.end → Path r c s v v (pos 0)
-  along : {u v : ℕ} {z : ℤ} → Path r c s u v z → (a : Arc) → Has (arcs c s) a → a.from ≡ v → Path r c s u a.to (z +ℤ r a.weight a.mark)
+  along : {u v : ℕ} {z : ℤ} → Path r c s u v z → (a : Arc) → ContainsAt (arcs c s) a → a.from ≡ v → Path r c s u a.to (z +ℤ r a.weight a.mark)
   from_start : {u : ℕ} {z : ℤ} → Path r c s u 0 z → (v : ℕ) → v ≤ c.end → Path r c s u v z
 
 -- no cycle sums above 0
@@ -61,7 +61,7 @@ time_of ts v = slice_index ts v
 
 -- no timetable keeps the fixed arcs and the selected arms
 abbrev pub NoTimes : Ranking → Case → Selection → Type 0
-NoTimes r c s = (u : Timetable) → u 0 ≡ 0 → All (Keeps r u) (arcs c s) → ⊥
+NoTimes r c s = (u : Timetable) → u 0 ≡ 0 → AllByRecursion (Keeps r u) (arcs c s) → ⊥
 
 -- the least times, or that there are none
 abbrev pub AreLeast : Ranking → Case → Selection → Option (List ℕ) → Type 0

@@ -1,6 +1,6 @@
 -- Hexadecimal text, two digits at a time. Assumes nothing.
 use Rattle.std.proofs.Common.{◌≡◌, ℕ, zero, suc, ◌+◌, ◌*◌, ◌/◌, ◌%◌, ◌<◌, List, [], ◌∷◌, ◌++◌, length, get_or, take, Some, None, Err, Option, sym, refl, ap, ◌∙◌, subst, arith}
-use Rattle.std.specs.List.{AllByRecursion as All}
+use Rattle.std.specs.List.{AllByRecursion}
 use Rattle.std.proofs.lemmas.List.{take_more, append_assoc}
 use Rattle.std.proofs.lemmas.Bool.Decides.{nat_tests}
 use Rattle.hex_text.specs.Hex.{hex_value, hex_digit, hex_byte, hex_bytes, hex_text, HexRead}
@@ -70,7 +70,7 @@ digit_value : (v : ℕ) → v < 16 → hex_value (hex_digit v) ≡ Some v
 digit_value v h = grind (arith, nat_tests)
 
 -- what is written reads back the same
-pub hex_law : (bs : List ℕ) → All (λ b. b < 256) bs → hex_bytes (hex_text bs) ≡ Some bs
+pub hex_law : (bs : List ℕ) → AllByRecursion (λ b. b < 256) bs → hex_bytes (hex_text bs) ≡ Some bs
 hex_law [] a = refl
 hex_law (b ∷ bs) a =
     let h : b < 256 = a.0 in

@@ -1,7 +1,7 @@
 -- A check that finds no fault, and the limits that it stands for.
 use Rattle.std.proofs.Common.{◌≡◌, ℕ, ◌+◌, Bool, true, false, cond, List, [], ◌∷◌, ℤ, ◌≤ℤ◌, Some, None, Option, refl, ◌∙◌, arith}
 use lib.Signed.{lt_z}
-use Rattle.std.specs.List.{AllByRecursion as All}
+use Rattle.std.specs.List.{AllByRecursion}
 use Rattle.std.proofs.lemmas.Bool.{ltb-false, eqb-false, le-ltb, ne_eqb, or_parts, or_from, cond-false}
 use Rattle.std.proofs.lemmas.Int.{ints}
 use Rattle.graph.specs.Faults.{Fault, or_else}
@@ -56,18 +56,18 @@ within_arc n k a w =
     (none_cond _ _ _ (or_from _ _ (not_less _ _ w.not_below) (not_less _ _ w.not_above))
     (none_cond _ _ _ (le-ltb _ _ w.marked) refl)))
 
-pub fixed_within : (n k : ℕ) (xs : List Arc) → fixed_fault n k xs ≡ None → All (ArcWithin n) xs
+pub fixed_within : (n k : ℕ) (xs : List Arc) → fixed_fault n k xs ≡ None → AllByRecursion (ArcWithin n) xs
 fixed_within n k [] e = tt
 fixed_within n k (a ∷ xs) e =
     let s = or_else_none (arc_fault n k a) (fixed_fault n (k + 1) xs) e in
     (arc_within n k a s.0, fixed_within n (k + 1) xs s.1)
 
-pub within_fixed : (n k : ℕ) (xs : List Arc) → All (ArcWithin n) xs → fixed_fault n k xs ≡ None
+pub within_fixed : (n k : ℕ) (xs : List Arc) → AllByRecursion (ArcWithin n) xs → fixed_fault n k xs ≡ None
 within_fixed n k [] w = refl
 within_fixed n k (a ∷ xs) w = none_or_else (arc_fault n k a) (fixed_fault n (k + 1) xs) (within_arc n k a w.0) (within_fixed n (k + 1) xs w.1)
 
 abbrev pub BothWithin : ℕ → List Pair → Type 0
-BothWithin n ps = All (λ p. ArcWithin n p.first) ps × All (λ p. ArcWithin n p.second) ps
+BothWithin n ps = AllByRecursion (λ p. ArcWithin n p.first) ps × AllByRecursion (λ p. ArcWithin n p.second) ps
 
 pub pairs_within : (n k : ℕ) (ps : List Pair) → pairs_fault n k ps ≡ None → BothWithin n ps
 pairs_within n k [] e = (tt, tt)

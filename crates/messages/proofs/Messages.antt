@@ -1,6 +1,6 @@
 -- A case and its message.
 use Rattle.std.proofs.Common.{◌≡◌, ℕ, zero, suc, ◌+◌, ◌*◌, ◌/◌, ◌%◌, ◌^◌, ◌<◌, ◌≤◌, false, eqb, List, [], ◌∷◌, ◌++◌, length, get_or, drop, ℤ, pos, negsuc, ◌≤ℤ◌, Some, None, Option, sym, refl, ap, ◌∙◌, arith, w32, SFits, to_z, of_z}
-use Rattle.std.specs.List.{AllByRecursion as All}
+use Rattle.std.specs.List.{AllByRecursion}
 use Rattle.std.proofs.lemmas.Bool.{ltb-false, eqb-true, eqb-false, le-ltb, eq-eqb, ne_eqb, or_parts, or_from, and_parts, and_from, not-false, not_from_true}
 use Rattle.std.proofs.lemmas.Int.{ints, to_z-of_z, of_z-to_z}
 use Rattle.std.proofs.lemmas.List.{get_or-drop, drop-drop, drop_more, drop_at, drop_all, length-append, append-nil}
@@ -174,14 +174,14 @@ module _ (n : ℕ) (bs rest : List ℕ) (i : ℕ) (a : Arc) (w : ArcWithin n a) 
   arc_past : drop (i + 9) bs ≡ rest
   arc_past = past bs (arc_bytes a ++ rest) rest i 9 e refl
 
-arcs_read : (n : ℕ) (bs rest : List ℕ) (i : ℕ) (xs : List Arc) → All (ArcWithin n) xs → drop i bs ≡ arcs_bytes xs ++ rest → arcs_at bs i (length xs) ≡ xs
+arcs_read : (n : ℕ) (bs rest : List ℕ) (i : ℕ) (xs : List Arc) → AllByRecursion (ArcWithin n) xs → drop i bs ≡ arcs_bytes xs ++ rest → arcs_at bs i (length xs) ≡ xs
 arcs_read n bs rest i [] w e = refl
 arcs_read n bs rest i (a ∷ xs) w e =
     let h = arc_reads n bs (arcs_bytes xs ++ rest) i a w.0 e in
     let t = arcs_read n bs rest (i + 9) xs w.1 (arc_past n bs (arcs_bytes xs ++ rest) i a w.0 e) in
     λ j. h j ∷ t j
 
-pairs_read : (n : ℕ) (bs rest : List ℕ) (i : ℕ) (ps : List Pair) → All (λ p. ArcWithin n p.first) ps → All (λ p. ArcWithin n p.second) ps → drop i bs ≡ pairs_bytes ps ++ rest → pairs_at bs i (length ps) ≡ ps
+pairs_read : (n : ℕ) (bs rest : List ℕ) (i : ℕ) (ps : List Pair) → AllByRecursion (λ p. ArcWithin n p.first) ps → AllByRecursion (λ p. ArcWithin n p.second) ps → drop i bs ≡ pairs_bytes ps ++ rest → pairs_at bs i (length ps) ≡ ps
 pairs_read n bs rest i [] v w e = refl
 pairs_read n bs rest i (p ∷ ps) v w e =
     let back = pairs_bytes ps ++ rest in
@@ -274,7 +274,7 @@ further i k = omega arith
 further_pair : (i k : ℕ) → i + 18 * suc k ≡ i + 18 + 18 * k
 further_pair i k = omega arith
 
-module _ (bs : List ℕ) (small : All (λ b. b < 256) bs) where
+module _ (bs : List ℕ) (small : AllByRecursion (λ b. b < 256) bs) where
   below : (i : ℕ) → i < length bs → get_or bs i 0 < 256
   below i h = All-get_or (λ b. b < 256) bs i 0 h small
 
@@ -350,7 +350,7 @@ module _ (bs : List ℕ) (small : All (λ b. b < 256) bs) where
         ∙ (ap (λ xs. u32_bytes (u32_at bs 0) ++ (get_or bs 4 0 ∷ xs)) (u16_back 5 7 (omega arith) refl)
         ∙ (ap (λ xs. u32_bytes (u32_at bs 0) ++ xs) (sym (next 4 5 (omega arith) refl)) ∙ u32_back 0 4 (omega arith) refl))))
 
-pub writes_back : (bs : List ℕ) → All (λ b. b < 256) bs → message_fault bs ≡ None → message (message_case bs) ≡ bs
+pub writes_back : (bs : List ℕ) → AllByRecursion (λ b. b < 256) bs → message_fault bs ≡ None → message (message_case bs) ≡ bs
 writes_back bs small e = ap message (unless_none (contents bs) (message_fault bs) e) ∙ contents_back bs small (read bs e)
 
 -- what is written are bytes
@@ -359,10 +359,10 @@ bits_small : (z : ℤ) → negsuc 999999 ≤ℤ z → z ≤ℤ pos 1000000 → o
 bits_small (pos n) l h = omega (arith, ints)
 bits_small (negsuc n) l h = omega arith
 
-u16_small : (n : ℕ) → n < 65536 → All (λ b. b < 256) (u16_bytes n)
+u16_small : (n : ℕ) → n < 65536 → AllByRecursion (λ b. b < 256) (u16_bytes n)
 u16_small n h = omega arith
 
-arc_small : (n : ℕ) (a : Arc) → n ≤ 511 → ArcWithin n a → All (λ b. b < 256) (arc_bytes a)
+arc_small : (n : ℕ) (a : Arc) → n ≤ 511 → ArcWithin n a → AllByRecursion (λ b. b < 256) (arc_bytes a)
 arc_small n a h w =
     let z = bits_small a.weight w.not_below w.not_above in
     let f = u16_small a.from (omega (arith, w.from_known)) in
@@ -371,17 +371,17 @@ arc_small n a h w =
     let y = u16_small (of_z w32 a.weight % 65536) (omega arith) in
     (f.0, (f.1.0, (t.0, (t.1.0, (x.0, (x.1.0, (y.0, (y.1.0, (omega (arith, w.marked), tt)))))))))
 
-arcs_small : (n : ℕ) (xs : List Arc) → n ≤ 511 → All (ArcWithin n) xs → All (λ b. b < 256) (arcs_bytes xs)
+arcs_small : (n : ℕ) (xs : List Arc) → n ≤ 511 → AllByRecursion (ArcWithin n) xs → AllByRecursion (λ b. b < 256) (arcs_bytes xs)
 arcs_small n [] h w = tt
 arcs_small n (a ∷ xs) h w = All-append (λ b. b < 256) (arc_bytes a) (arcs_bytes xs) (arc_small n a h w.0) (arcs_small n xs h w.1)
 
-pairs_small : (n : ℕ) (ps : List Pair) → n ≤ 511 → All (λ p. ArcWithin n p.first) ps → All (λ p. ArcWithin n p.second) ps → All (λ b. b < 256) (pairs_bytes ps)
+pairs_small : (n : ℕ) (ps : List Pair) → n ≤ 511 → AllByRecursion (λ p. ArcWithin n p.first) ps → AllByRecursion (λ p. ArcWithin n p.second) ps → AllByRecursion (λ b. b < 256) (pairs_bytes ps)
 pairs_small n [] h v w = tt
 pairs_small n (p ∷ ps) h v w =
     All-append (λ b. b < 256) (arc_bytes p.first) (arc_bytes p.second ++ pairs_bytes ps) (arc_small n p.first h v.0)
     (All-append (λ b. b < 256) (arc_bytes p.second) (pairs_bytes ps) (arc_small n p.second h w.0) (pairs_small n ps h v.1 w.1))
 
-pub message_small : (c : Case) → Within c → All (λ b. b < 256) (message c)
+pub message_small : (c : Case) → Within c → AllByRecursion (λ b. b < 256) (message c)
 message_small c w =
     let l = 6 + 9 * length c.fixed + 18 * length c.pairs in
     let few : l ≤ 19518 = omega (arith, w.few_fixed, w.few_pairs) in
@@ -401,5 +401,5 @@ reads_back_law c w = record { accepted = accepted c w; same = reads_back c w }
 pub takes_limits : (c : Case) → TakesLimits c
 takes_limits c = record { taken_within = listed_within c; within_taken = within_listed c }
 
-pub writes_back_law : (bs : List ℕ) → All (λ b. b < 256) bs → WritesBack bs
+pub writes_back_law : (bs : List ℕ) → AllByRecursion (λ b. b < 256) bs → WritesBack bs
 writes_back_law bs small = record { within = accepted_within bs; same = writes_back bs small }

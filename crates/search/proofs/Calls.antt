@@ -1,6 +1,6 @@
 -- A planner is sound after any calls.
 use Rattle.std.proofs.Common.{◌≡◌, ℕ, zero, suc, ◌≤◌, Bool, true, false, cond, not, ◌||◌, eqb, List, [], ◌∷◌, length, set, replicate, Some, None, Option, refl, ◌∙◌, inl, inr, arith}
-use Rattle.std.specs.List.{AllByRecursion as All}
+use Rattle.std.specs.List.{AllByRecursion}
 use Rattle.std.proofs.ByRecursion.{All-set}
 use Rattle.std.proofs.lemmas.List.{length-set, length-replicate}
 use Rattle.std.proofs.lemmas.Bool.{eqb-true, or_cases, not-false}
@@ -20,7 +20,7 @@ no_fault false f o e = (refl, e)
 arm_of_lem : (a : ℕ) → not (eqb a 1 || eqb a 2) ≡ false → a ≤ 2
 arm_of_lem a e = elim (or_cases (eqb a 1) (eqb a 2) (not-false (eqb a 1 || eqb a 2) e)) [ inl h ↦ omega (arith, eqb-true a 1 h) | inr h ↦ omega (arith, eqb-true a 2 h) ]
 
-all_zero : (n : ℕ) → All (λ a. a ≤ 2) (replicate n 0)
+all_zero : (n : ℕ) → AllByRecursion (λ a. a ≤ 2) (replicate n 0)
 all_zero zero = tt
 all_zero (suc n) = (omega arith, all_zero n)
 

@@ -1,7 +1,7 @@
 -- What a planner keeps while it searches.
 use Rattle.std.proofs.Common.{◌≡◌, ℕ, zero, suc, ◌+◌, ◌<◌, ◌≤◌, Bool, true, false, ltb, ◌⊎◌, List, [], ◌∷◌, ◌++◌, length, get_or, ℤ, pos, ◌≤ℤ◌, Some, None, Option, sym, refl, ◌∙◌, subst, inl, inr, arith}
 use lib.Signed.{lt_z}
-use Rattle.std.specs.List.{AllByRecursion as All}
+use Rattle.std.specs.List.{AllByRecursion}
 use Rattle.std.proofs.ByRecursion.{All-append, All-get_or, All-push}
 use Rattle.std.proofs.lemmas.List.{length_push}
 use Rattle.std.proofs.lemmas.Int.{ints, clamps}
@@ -132,7 +132,7 @@ module _ (c : Case) (r : Ranking) where
   better_shown hs x (Some ts) (Some p) s m l a h =
       cond_both (lt_z (pos (get_or ts c.end 0)) p.delay) (Some (record { arms = joined hs x; delay = pos (get_or ts c.end 0) })) (Some p) (λ q. OnShow c r hs q) (λ e. planned hs x ts s m l a.1) (λ e. h)
 
-  pub better_beats : (s : Selection) (o : Option (List ℕ)) (p : Option Plan) (t : Timetable) → AreLeast r c s o → t 0 ≡ 0 → All (Keeps r t) (arcs c s) → Unbeaten (better s c.end o p) (delay c t)
+  pub better_beats : (s : Selection) (o : Option (List ℕ)) (p : Option Plan) (t : Timetable) → AreLeast r c s o → t 0 ≡ 0 → AllByRecursion (Keeps r t) (arcs c s) → Unbeaten (better s c.end o p) (delay c t)
   better_beats s None p t a z k = absurd (a t z k)
   better_beats s (Some ts) None t a z k = let h : get_or ts c.end 0 ≤ t c.end = a.1.least t z k c.end (omega arith) in omega (arith, ints, h)
   better_beats s (Some ts) (Some p) t a z k =

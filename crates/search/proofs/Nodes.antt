@@ -1,6 +1,6 @@
 -- Nodes of the search: what waits after a node, how many nodes are left, and what a node joined to the holds keeps.
 use Rattle.std.proofs.Common.{◌≡◌, ℕ, zero, suc, ◌+◌, ◌-◌, ◌^◌, ◌<◌, ◌≤◌, Bool, true, false, cond, eqb, ◌⊎◌, List, [], ◌∷◌, ◌++◌, map, length, get_or, Some, None, Option, refl, ap, inl, inr, arith, pow_pos}
-use Rattle.std.specs.List.{AllByRecursion as All}
+use Rattle.std.specs.List.{AllByRecursion}
 use Rattle.std.proofs.ByRecursion.{All-append, All-map, All-weaker}
 use Rattle.std.proofs.lemmas.Bool.{cond_both, eqb-true, eqb-false}
 use Rattle.graph.specs.Graph.{Arc, Pair, Selection, chosen, selected}
@@ -120,7 +120,7 @@ room_branch (suc q) (a ∷ x) l =
 
 -- the arms of a node
 abbrev pub Armed : Node → Type 0
-Armed x = All (λ a. (a ≡ 1) ⊎ (a ≡ 2)) x
+Armed x = AllByRecursion (λ a. (a ≡ 1) ⊎ (a ≡ 2)) x
 
 -- a node that can be joined to holds with q pairs free
 abbrev pub Proper : ℕ → Option Node → Type 0
@@ -152,11 +152,11 @@ length_joined (h ∷ hs) (a ∷ x) =
 arm_small : (a : ℕ) → (a ≡ 1) ⊎ (a ≡ 2) → a ≤ 2
 arm_small a m = omega arith
 
-pub joined_small : (hs : Selection) (x : Node) → All (λ a. a ≤ 2) hs → Armed x → All (λ a. a ≤ 2) (joined hs x)
+pub joined_small : (hs : Selection) (x : Node) → AllByRecursion (λ a. a ≤ 2) hs → Armed x → AllByRecursion (λ a. a ≤ 2) (joined hs x)
 joined_small [] x s m = tt
 joined_small (h ∷ hs) [] s m = (s.0, joined_small hs [] s.1 m)
 joined_small (h ∷ hs) (a ∷ x) s m =
-    cond_both (eqb h 0) (a ∷ joined hs x) (h ∷ joined hs (a ∷ x)) (λ t. All (λ b. b ≤ 2) t)
+    cond_both (eqb h 0) (a ∷ joined hs x) (h ∷ joined hs (a ∷ x)) (λ t. AllByRecursion (λ b. b ≤ 2) t)
     (λ e. (arm_small a m.0, joined_small hs x s.1 m.1))
     (λ e. (s.0, joined_small hs (a ∷ x) s.1 m))
 
@@ -167,13 +167,13 @@ held_small (suc zero) l e = inl refl
 held_small (suc (suc zero)) l e = inr refl
 held_small (suc (suc (suc h))) l e = absurd (omega arith)
 
-pub joined_full : (hs : Selection) (x : Node) → All (λ a. a ≤ 2) hs → Armed x → free hs ≤ length x → All (λ a. (a ≡ 1) ⊎ (a ≡ 2)) (joined hs x)
+pub joined_full : (hs : Selection) (x : Node) → AllByRecursion (λ a. a ≤ 2) hs → Armed x → free hs ≤ length x → AllByRecursion (λ a. (a ≡ 1) ⊎ (a ≡ 2)) (joined hs x)
 joined_full [] x s m l = tt
 joined_full (h ∷ hs) [] s m l =
-    (elim (eqb h 0) as (λ b. eqb h 0 ≡ b → cond b (1 + free hs) (free hs) ≤ 0 → All (λ a. (a ≡ 1) ⊎ (a ≡ 2)) (h ∷ joined hs []))
+    (elim (eqb h 0) as (λ b. eqb h 0 ≡ b → cond b (1 + free hs) (free hs) ≤ 0 → AllByRecursion (λ a. (a ≡ 1) ⊎ (a ≡ 2)) (h ∷ joined hs []))
     [ true ↦ λ e k. absurd (omega arith) | false ↦ λ e k. (held_small h s.0 e, joined_full hs [] s.1 m k) ]) refl l
 joined_full (h ∷ hs) (a ∷ x) s m l =
-    (elim (eqb h 0) as (λ b. eqb h 0 ≡ b → cond b (1 + free hs) (free hs) ≤ suc (length x) → All (λ a. (a ≡ 1) ⊎ (a ≡ 2)) (cond b (a ∷ joined hs x) (h ∷ joined hs (a ∷ x))))
+    (elim (eqb h 0) as (λ b. eqb h 0 ≡ b → cond b (1 + free hs) (free hs) ≤ suc (length x) → AllByRecursion (λ a. (a ≡ 1) ⊎ (a ≡ 2)) (cond b (a ∷ joined hs x) (h ∷ joined hs (a ∷ x))))
     [ true ↦ λ e k. (m.0, joined_full hs x s.1 m.1 (omega arith)) | false ↦ λ e k. (held_small h s.0 e, joined_full hs (a ∷ x) s.1 m k) ]) refl l
 
 -- holds stay
@@ -186,11 +186,11 @@ joined_held (h ∷ hs) (a ∷ x) (suc i) n =
     cond_both (eqb h 0) (a ∷ joined hs x) (h ∷ joined hs (a ∷ x)) (λ t. get_or t (suc i) 0 ≡ get_or hs i 0) (λ e. joined_held hs x i n) (λ e. joined_held hs (a ∷ x) i n)
 
 -- parts of a list
-pub all_left : (P : Arc → Type 0) (xs ys : List Arc) → All P (xs ++ ys) → All P xs
+pub all_left : (P : Arc → Type 0) (xs ys : List Arc) → AllByRecursion P (xs ++ ys) → AllByRecursion P xs
 all_left P [] ys h = tt
 all_left P (x ∷ xs) ys h = (h.0, all_left P xs ys h.1)
 
-pub all_right : (P : Arc → Type 0) (xs ys : List Arc) → All P (xs ++ ys) → All P ys
+pub all_right : (P : Arc → Type 0) (xs ys : List Arc) → AllByRecursion P (xs ++ ys) → AllByRecursion P ys
 all_right P [] ys h = h
 all_right P (x ∷ xs) ys h = all_right P xs ys h.1
 
@@ -200,17 +200,17 @@ module _ (K : Arc → Type 0) where
   Arm p = K p.first ⊎ K p.second
 
   abbrev Branched : List Pair → Selection → Selection → Type 0
-  Branched ps s s' = All K (selected s ps) ⊎ All K (selected s' ps)
+  Branched ps s s' = AllByRecursion K (selected s ps) ⊎ AllByRecursion K (selected s' ps)
 
-  branched_under : (a : ℕ) (p : Pair) (ps : List Pair) (s s' : Selection) → All K (chosen a p) → Branched ps s s' → Branched (p ∷ ps) (a ∷ s) (a ∷ s')
+  branched_under : (a : ℕ) (p : Pair) (ps : List Pair) (s s' : Selection) → AllByRecursion K (chosen a p) → Branched ps s s' → Branched (p ∷ ps) (a ∷ s) (a ∷ s')
   branched_under a p ps s s' k (inl h) = inl (All-append K (chosen a p) (selected s ps) k h)
   branched_under a p ps s s' k (inr h) = inr (All-append K (chosen a p) (selected s' ps) k h)
 
-  branched_here : (p : Pair) (ps : List Pair) (s : Selection) → Arm p → All K (selected s ps) → Branched (p ∷ ps) (1 ∷ s) (2 ∷ s)
+  branched_here : (p : Pair) (ps : List Pair) (s : Selection) → Arm p → AllByRecursion K (selected s ps) → Branched (p ∷ ps) (1 ∷ s) (2 ∷ s)
   branched_here p ps s (inl h) k = inl (h, k)
   branched_here p ps s (inr h) k = inr (h, k)
 
-  pub branched : (ps : List Pair) (hs : Selection) (x : Node) → length hs ≡ length ps → length x < free hs → All Arm ps → All K (selected (joined hs x) ps) → Branched ps (joined hs (x ++ (1 ∷ []))) (joined hs (x ++ (2 ∷ [])))
+  pub branched : (ps : List Pair) (hs : Selection) (x : Node) → length hs ≡ length ps → length x < free hs → AllByRecursion Arm ps → AllByRecursion K (selected (joined hs x) ps) → Branched ps (joined hs (x ++ (1 ∷ []))) (joined hs (x ++ (2 ∷ [])))
   branched ps [] x e l m k = absurd (omega arith)
   branched [] (h ∷ hs) x e l m k = absurd (omega arith)
   branched (p ∷ ps) (h ∷ hs) [] e l m k =
@@ -219,19 +219,19 @@ module _ (K : Arc → Type 0) where
         | false ↦ λ l'. branched_under h p ps (joined hs (1 ∷ [])) (joined hs (2 ∷ [])) (all_left K (chosen h p) (selected (joined hs []) ps) k) (branched ps hs [] (omega arith) l' m.1 (all_right K (chosen h p) (selected (joined hs []) ps) k))
       ]) l
   branched (p ∷ ps) (h ∷ hs) (a ∷ x) e l m k =
-      (elim (eqb h 0) as (λ b. suc (length x) < cond b (1 + free hs) (free hs) → All K (selected (cond b (a ∷ joined hs x) (h ∷ joined hs (a ∷ x))) (p ∷ ps)) → Branched (p ∷ ps) (cond b (a ∷ joined hs (x ++ (1 ∷ []))) (h ∷ joined hs (a ∷ (x ++ (1 ∷ []))))) (cond b (a ∷ joined hs (x ++ (2 ∷ []))) (h ∷ joined hs (a ∷ (x ++ (2 ∷ [])))))) [
+      (elim (eqb h 0) as (λ b. suc (length x) < cond b (1 + free hs) (free hs) → AllByRecursion K (selected (cond b (a ∷ joined hs x) (h ∷ joined hs (a ∷ x))) (p ∷ ps)) → Branched (p ∷ ps) (cond b (a ∷ joined hs (x ++ (1 ∷ []))) (h ∷ joined hs (a ∷ (x ++ (1 ∷ []))))) (cond b (a ∷ joined hs (x ++ (2 ∷ []))) (h ∷ joined hs (a ∷ (x ++ (2 ∷ [])))))) [
         | true ↦ λ l' k'. branched_under a p ps (joined hs (x ++ (1 ∷ []))) (joined hs (x ++ (2 ∷ []))) (all_left K (chosen a p) (selected (joined hs x) ps) k') (branched ps hs x (omega arith) (omega arith) m.1 (all_right K (chosen a p) (selected (joined hs x) ps) k'))
         | false ↦ λ l' k'. branched_under h p ps (joined hs (a ∷ (x ++ (1 ∷ [])))) (joined hs (a ∷ (x ++ (2 ∷ [])))) (all_left K (chosen h p) (selected (joined hs (a ∷ x)) ps) k') (branched ps hs (a ∷ x) (omega arith) l' m.1 (all_right K (chosen h p) (selected (joined hs (a ∷ x)) ps) k'))
       ]) l k
 
 -- what waits after an armed node is armed
-pub waiting_armed : (x : Node) → Armed x → All Armed (waiting x)
+pub waiting_armed : (x : Node) → Armed x → AllByRecursion Armed (waiting x)
 waiting_armed [] m = tt
 waiting_armed (a ∷ x) m =
-    let h : All Armed (map (λ y. a ∷ y) (waiting x)) = All-map Armed (λ y. a ∷ y) (waiting x) (All-weaker Armed (λ y. Armed (a ∷ y)) (λ y k. (m.0, k)) (waiting x) (waiting_armed x m.1)) in
-    cond_both (eqb a 1) ((2 ∷ []) ∷ map (λ y. a ∷ y) (waiting x)) (map (λ y. a ∷ y) (waiting x)) (λ ws. All Armed ws) (λ e. ((inr refl, tt), h)) (λ e. h)
+    let h : AllByRecursion Armed (map (λ y. a ∷ y) (waiting x)) = All-map Armed (λ y. a ∷ y) (waiting x) (All-weaker Armed (λ y. Armed (a ∷ y)) (λ y k. (m.0, k)) (waiting x) (waiting_armed x m.1)) in
+    cond_both (eqb a 1) ((2 ∷ []) ∷ map (λ y. a ∷ y) (waiting x)) (map (λ y. a ∷ y) (waiting x)) (λ ws. AllByRecursion Armed ws) (λ e. ((inr refl, tt), h)) (λ e. h)
 
-pub any_weaker : (A P Q : Node → Type 0) → ((y : Node) → A y → P y → Q y) → (xs : List Node) → All A xs → Any P xs → Any Q xs
+pub any_weaker : (A P Q : Node → Type 0) → ((y : Node) → A y → P y → Q y) → (xs : List Node) → AllByRecursion A xs → Any P xs → Any Q xs
 any_weaker A P Q f [] a h = h
 any_weaker A P Q f (x ∷ xs) a (inl h) = inl (f x a.0 h)
 any_weaker A P Q f (x ∷ xs) a (inr h) = inr (any_weaker A P Q f xs a.1 h)

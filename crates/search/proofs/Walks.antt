@@ -1,6 +1,6 @@
 -- What a search does with its budget and with the bound on show.
 use Rattle.std.proofs.Common.{◌≡◌, ℕ, zero, suc, ◌+◌, ◌-◌, ◌^◌, ◌<◌, ◌≤◌, true, false, eqb, ltb, ◌⊎◌, List, [], ◌∷◌, ◌++◌, length, get_or, set, replicate, ℤ, pos, ◌≤ℤ◌, Some, None, Option, sym, refl, ◌∙◌, subst, inl, inr, arith}
-use Rattle.std.specs.List.{AllByRecursion as All}
+use Rattle.std.specs.List.{AllByRecursion}
 use Rattle.std.proofs.ByRecursion.{All-append, All-push}
 use Rattle.std.proofs.lemmas.List.{length_push}
 use Rattle.std.proofs.lemmas.Int.{ints, clamps}
@@ -127,21 +127,21 @@ module _ (c : Case) (r : Ranking) (m : Meaning) where
 
 -- the least times of a plan keep the case and the holds
 module _ (K : Arc → Type 0) where
-  arm_kept : (a : ℕ) (p : Pair) → (a ≡ 1) ⊎ (a ≡ 2) → All K (chosen a p) → K p.first ⊎ K p.second
-  arm_kept a p (inl e) h = inl (subst (λ b. All K (chosen b p)) e h).0
-  arm_kept a p (inr e) h = inr (subst (λ b. All K (chosen b p)) e h).0
+  arm_kept : (a : ℕ) (p : Pair) → (a ≡ 1) ⊎ (a ≡ 2) → AllByRecursion K (chosen a p) → K p.first ⊎ K p.second
+  arm_kept a p (inl e) h = inl (subst (λ b. AllByRecursion K (chosen b p)) e h).0
+  arm_kept a p (inr e) h = inr (subst (λ b. AllByRecursion K (chosen b p)) e h).0
 
-  arms_kept : (ps : List Pair) (s : Selection) → length s ≡ length ps → ((i : ℕ) → i < length ps → (get_or s i 0 ≡ 1) ⊎ (get_or s i 0 ≡ 2)) → All K (selected s ps) → All (λ p. K p.first ⊎ K p.second) ps
+  arms_kept : (ps : List Pair) (s : Selection) → length s ≡ length ps → ((i : ℕ) → i < length ps → (get_or s i 0 ≡ 1) ⊎ (get_or s i 0 ≡ 2)) → AllByRecursion K (selected s ps) → AllByRecursion (λ p. K p.first ⊎ K p.second) ps
   arms_kept [] s e f k = tt
   arms_kept (p ∷ ps) [] e f k = absurd (omega arith)
   arms_kept (p ∷ ps) (a ∷ s) e f k = (arm_kept a p (f 0 (omega arith)) (all_left K (chosen a p) (selected s ps) k), arms_kept ps s (omega arith) (λ i l. f (suc i) (omega arith)) (all_right K (chosen a p) (selected s ps) k))
 
-  hold_kept : (h a : ℕ) (p : Pair) → ((h ≡ 0 → ⊥) → a ≡ h) → All K (chosen a p) → All K (chosen h p)
+  hold_kept : (h a : ℕ) (p : Pair) → ((h ≡ 0 → ⊥) → a ≡ h) → AllByRecursion K (chosen a p) → AllByRecursion K (chosen h p)
   hold_kept h a p f k =
-      (elim (eqb h 0) as (λ b. eqb h 0 ≡ b → All K (chosen h p))
-      [ true ↦ λ e. subst (λ b. All K (chosen b p)) (sym (eqb-true h 0 e)) tt | false ↦ λ e. subst (λ b. All K (chosen b p)) (f (eqb-false h 0 e)) k ]) refl
+      (elim (eqb h 0) as (λ b. eqb h 0 ≡ b → AllByRecursion K (chosen h p))
+      [ true ↦ λ e. subst (λ b. AllByRecursion K (chosen b p)) (sym (eqb-true h 0 e)) tt | false ↦ λ e. subst (λ b. AllByRecursion K (chosen b p)) (f (eqb-false h 0 e)) k ]) refl
 
-  holds_kept : (ps : List Pair) (hs s : Selection) → length s ≡ length ps → ((i : ℕ) → i < length ps → (get_or hs i 0 ≡ 0 → ⊥) → get_or s i 0 ≡ get_or hs i 0) → All K (selected s ps) → All K (selected hs ps)
+  holds_kept : (ps : List Pair) (hs s : Selection) → length s ≡ length ps → ((i : ℕ) → i < length ps → (get_or hs i 0 ≡ 0 → ⊥) → get_or s i 0 ≡ get_or hs i 0) → AllByRecursion K (selected s ps) → AllByRecursion K (selected hs ps)
   holds_kept [] [] s e f k = tt
   holds_kept [] (h ∷ hs) s e f k = tt
   holds_kept (p ∷ ps) [] s e f k = tt

@@ -1,5 +1,5 @@
 ghost use Rattle.std.specs.Prelude.{◌≡◌, ◌+◌, ◌-◌, ◌<◌, ◌≤◌, true, ◌++◌, length, take, replicate, IfOk, Some, None, Ok, Err, vec_len, MatchOption, slice_index};
-ghost use Rattle.std.specs.List.{AllByRecursion as All};
+ghost use Rattle.std.specs.List.{AllByRecursion};
 ghost use Rattle.graph.specs.Graph.{selection_of};
 ghost use Rattle.graph.specs.Times.{least_times, TimesLaw};
 ghost use Rattle.messages.specs.Message.{message_case, message_fault};
@@ -69,7 +69,7 @@ pub struct OpenCase {
 
 /// The index of the first arm that is not 0, 1 or 2, if there is one.
 fn wrong_arm(arms: &[u8]) -> Option<usize>
-    ensures { MatchOption result (All (λ a. a ≤ 2) arms.now) (λ k. (k < length arms.now) × (2 < slice_index arms.now k)) }
+    ensures { MatchOption result (AllByRecursion (λ a. a ≤ 2) arms.now) (λ k. (k < length arms.now) × (2 < slice_index arms.now k)) }
 {
     for (at, arm) in arms.iter().enumerate() {
         if *arm > 2 {

@@ -1,6 +1,6 @@
 -- The case of a railway is within the limits.
 use Rattle.std.proofs.Common.{◌≡◌, ℕ, zero, suc, ◌+◌, ◌*◌, ◌<◌, ◌≤◌, max, true, false, cond, eqb, ltb, List, [], ◌∷◌, ◌++◌, length, get_or, take, drop, pos, negsuc, neg_ℤ, ◌≤ℤ◌, None, refl, ap, arith}
-use Rattle.std.specs.List.{AllByRecursion as All}
+use Rattle.std.specs.List.{AllByRecursion}
 use Rattle.std.proofs.lemmas.Bool.{ltb-false, ne_eqb, or_parts}
 use Rattle.std.proofs.lemmas.Int.{ints}
 use Rattle.std.proofs.lemmas.List.{length-append, length-take}
@@ -30,9 +30,9 @@ record TripGood (n low : ℕ) (t : Trip) : Type 0 where
   few : length t.steps ≤ 16
   entry : t.entry ≤ 86400
   due : t.due ≤ 86400
-  steps : All (λ s. s.running ≤ 3600) t.steps
+  steps : AllByRecursion (λ s. s.running ≤ 3600) t.steps
 
-trains_good : (k : ℕ) (ts : List Train) → trains_fault k ts ≡ None → All TrainGood ts
+trains_good : (k : ℕ) (ts : List Train) → trains_fault k ts ≡ None → AllByRecursion TrainGood ts
 trains_good k [] e = tt
 trains_good k (t ∷ ts) e =
     let c = cond_none _ _ _ e in
@@ -41,7 +41,7 @@ trains_good k (t ∷ ts) e =
     let r = or_parts _ _ q.0 in
     (record { entry = ltb-false _ _ r.0; due = ltb-false _ _ r.1; steps = ltb-false _ _ p.1 }, trains_good (k + 1) ts c.1)
 
-steps_good : (k : ℕ) (ss : List Step) → steps_fault k ss ≡ None → All (λ s. s.running ≤ 3600) ss
+steps_good : (k : ℕ) (ss : List Step) → steps_fault k ss ≡ None → AllByRecursion (λ s. s.running ≤ 3600) ss
 steps_good k [] e = tt
 steps_good k (s ∷ ss) e =
     let c = cond_none _ _ _ e in
@@ -52,7 +52,7 @@ last_above : (e : ℕ) (ts : List Train) → e ≤ last_event e ts
 last_above e [] = omega arith
 last_above e (t ∷ ts) = omega (arith, last_above (e + t.steps + 1) ts)
 
-last_below : (e : ℕ) (ts : List Train) → All TrainGood ts → last_event e ts ≤ e + 17 * length ts
+last_below : (e : ℕ) (ts : List Train) → AllByRecursion TrainGood ts → last_event e ts ≤ e + 17 * length ts
 last_below e [] g = omega arith
 last_below e (t ∷ ts) g = omega (arith, last_below (e + t.steps + 1) ts g.1, g.0.steps)
 
@@ -60,7 +60,7 @@ length_trips : (e : ℕ) (ts : List Train) (ss : List Step) → length (trips e 
 length_trips e [] ss = refl
 length_trips e (t ∷ ts) ss = ap suc (length_trips (e + t.steps + 1) ts (drop t.steps ss))
 
-trips_good : (n low e : ℕ) (ts : List Train) (ss : List Step) → low ≤ e → 1 ≤ e → last_event e ts ≤ n → All TrainGood ts → All (λ s. s.running ≤ 3600) ss → All (TripGood n low) (trips e ts ss)
+trips_good : (n low e : ℕ) (ts : List Train) (ss : List Step) → low ≤ e → 1 ≤ e → last_event e ts ≤ n → AllByRecursion TrainGood ts → AllByRecursion (λ s. s.running ≤ 3600) ss → AllByRecursion (TripGood n low) (trips e ts ss)
 trips_good n low e [] ss l p h g k = tt
 trips_good n low e (t ∷ ts) ss l p h g k = (
   record {
@@ -77,7 +77,7 @@ trips_good n low e (t ∷ ts) ss l p h g k = (
 
 -- fixed arcs
 
-sum_below : (ss : List Step) → All (λ s. s.running ≤ 3600) ss → running_sum ss ≤ 3600 * length ss
+sum_below : (ss : List Step) → AllByRecursion (λ s. s.running ≤ 3600) ss → running_sum ss ≤ 3600 * length ss
 sum_below [] k = omega arith
 sum_below (s ∷ ss) k = omega (arith, sum_below ss k.1, k.0)
 
@@ -93,7 +93,7 @@ neg_above m h = omega (arith, ints)
 neg_below : (m : ℕ) → neg_ℤ (pos m) ≤ℤ pos 1000000
 neg_below m = omega (arith, ints)
 
-runs_within : (n e : ℕ) (ss : List Step) → e + length ss ≤ n → All (λ s. s.running ≤ 3600) ss → All (ArcWithin n) (runs e ss)
+runs_within : (n e : ℕ) (ss : List Step) → e + length ss ≤ n → AllByRecursion (λ s. s.running ≤ 3600) ss → AllByRecursion (ArcWithin n) (runs e ss)
 runs_within n e [] h k = tt
 runs_within n e (s ∷ ss) h k = (
   record {
@@ -107,7 +107,7 @@ runs_within n e (s ∷ ss) h k = (
   runs_within n (e + 1) ss (omega arith) k.1,
 )
 
-trip_within : (n low : ℕ) (t : Trip) → TripGood n low t → All (ArcWithin n) (trip_arcs n t)
+trip_within : (n low : ℕ) (t : Trip) → TripGood n low t → AllByRecursion (ArcWithin n) (trip_arcs n t)
 trip_within n low t g = (
   record {
     from_known = omega arith;
@@ -131,7 +131,7 @@ trip_within n low t g = (
       ),
 )
 
-all_within : (n low : ℕ) (ts : List Trip) → All (TripGood n low) ts → All (ArcWithin n) (all_arcs n ts)
+all_within : (n low : ℕ) (ts : List Trip) → AllByRecursion (TripGood n low) ts → AllByRecursion (ArcWithin n) (all_arcs n ts)
 all_within n low [] g = tt
 all_within n low (t ∷ ts) g = All-append (ArcWithin n) (trip_arcs n t) (all_arcs n ts) (trip_within n low t g.0) (all_within n low ts g.1)
 
@@ -139,7 +139,7 @@ length_runs : (e : ℕ) (ss : List Step) → length (runs e ss) ≡ length ss
 length_runs e [] = refl
 length_runs e (s ∷ ss) = ap suc (length_runs (e + 1) ss)
 
-few_arcs : (n low : ℕ) (ts : List Trip) → All (TripGood n low) ts → length (all_arcs n ts) ≤ 18 * length ts
+few_arcs : (n low : ℕ) (ts : List Trip) → AllByRecursion (TripGood n low) ts → length (all_arcs n ts) ≤ 18 * length ts
 few_arcs n low [] g = omega arith
 few_arcs n low (t ∷ ts) g =
     let final = arc (t.first + length t.steps) n (neg_ℤ (pos (max t.due (unhindered t)))) 0 ∷ [] in
@@ -147,13 +147,13 @@ few_arcs n low (t ∷ ts) g =
 
 -- pairs
 
-get_d_below : (xs : List ℕ) (k m : ℕ) → All (λ x. x ≤ m) xs → get_or xs k 0 ≤ m
+get_d_below : (xs : List ℕ) (k m : ℕ) → AllByRecursion (λ x. x ≤ m) xs → get_or xs k 0 ≤ m
 get_d_below [] k m g = omega arith
 get_d_below (x ∷ xs) zero m g = g.0
 get_d_below (x ∷ xs) (suc k) m g = get_d_below xs k m g.1
 
 -- the rule of the separation table, over the whole table
-pub separations_small : All (λ x. x ≤ 240) separations
+pub separations_small : AllByRecursion (λ x. x ≤ 240) separations
 separations_small = omega arith
 
 pub separation_small : (g f : Kind) → separation g f ≤ 240
@@ -188,14 +188,14 @@ trips_within n t u e [] h k = (tt, tt)
 trips_within n t u e (s ∷ ss) h k =
     both_append n (step_pairs t u e s u.first u.steps) (trip_pairs t u (e + 1) ss) (steps_within n t u e s u.first u.steps (omega arith) k) (trips_within n t u (e + 1) ss (omega arith) k)
 
-with_within : (n low : ℕ) (t : Trip) (us : List Trip) → t.first + length t.steps < low → All (TripGood n low) us → BothWithin n (pairs_with t us)
+with_within : (n low : ℕ) (t : Trip) (us : List Trip) → t.first + length t.steps < low → AllByRecursion (TripGood n low) us → BothWithin n (pairs_with t us)
 with_within n low t [] h g = (tt, tt)
 with_within n low t (u ∷ us) h g =
     both_append n (trip_pairs t u t.first t.steps) (pairs_with t us)
     (trips_within n t u t.first t.steps (omega (arith, g.0.late)) (omega (arith, g.0.room)))
     (with_within n low t us h g.1)
 
-pairs_within : (n e : ℕ) (ts : List Train) (ss : List Step) → 1 ≤ e → last_event e ts ≤ n → All TrainGood ts → All (λ s. s.running ≤ 3600) ss → BothWithin n (all_pairs (trips e ts ss))
+pairs_within : (n e : ℕ) (ts : List Train) (ss : List Step) → 1 ≤ e → last_event e ts ≤ n → AllByRecursion TrainGood ts → AllByRecursion (λ s. s.running ≤ 3600) ss → BothWithin n (all_pairs (trips e ts ss))
 pairs_within n e [] ss p h g k = (tt, tt)
 pairs_within n e (t ∷ ts) ss p h g k =
     let e' = e + t.steps + 1 in
@@ -208,8 +208,8 @@ pairs_within n e (t ∷ ts) ss p h g k =
 
 record Checked (ts : List Train) (ss : List Step) : Type 0 where
   few_trains : length ts ≤ 12
-  trains : All TrainGood ts
-  running : All (λ s. s.running ≤ 3600) ss
+  trains : AllByRecursion TrainGood ts
+  running : AllByRecursion (λ s. s.running ≤ 3600) ss
   few_pairs : length (timetable_case ts ss).pairs ≤ 60
 
 checked : (ts : List Train) (ss : List Step) → railway_fault ts ss ≡ None → Checked ts ss

@@ -1,6 +1,6 @@
 -- The laws of railways. Assumes nothing.
 use Rattle.std.specs.Prelude.{◌≡◌, ◌≤◌, List, [], ◌∷◌, length, pos, negsuc}
-use Rattle.std.specs.List.{ContainsAt as Has, AllByRecursion as All}
+use Rattle.std.specs.List.{ContainsAt, AllByRecursion}
 use Rattle.graph.specs.Faults.{fault}
 use Rattle.graph.specs.Graph.{Pair, Case, Within, empty_case}
 use Rattle.trains.specs.declared.kind.Kind.{Kind}
@@ -26,12 +26,12 @@ ore_and_staff =
 -- what holds of every railway, and the two examples
 pub record RailwayLaws : Type 0 where
   pub within : (ts : List Train) (ss : List Step) → Within (railway_case ts ss)
-  pub pairs_meet : (ts : List Trip) → All (Meets ts) (all_pairs ts)
-  pub meetings_paired : (ts : List Trip) (p : Pair) → Meets ts p → Has (all_pairs ts) p
+  pub pairs_meet : (ts : List Trip) → AllByRecursion (Meets ts) (all_pairs ts)
+  pub meetings_paired : (ts : List Trip) (p : Pair) → Meets ts p → ContainsAt (all_pairs ts) p
   pub runs : (ts : List Train) (ss : List Step) → RunsLaw ts ss
   pub few_kinds : (k : Kind) → kind_number k ≤ 4
   pub one_kind_each : (g h : Kind) → kind_number g ≡ kind_number h → g ≡ h
-  pub small_entries : All (λ s. s ≤ 240) separations
+  pub small_entries : AllByRecursion (λ s. s ≤ 240) separations
   pub small : (g h : Kind) → separation g h ≤ 240
   pub no_trains : railway_case [] [] ≡ empty_case
   pub no_trains_with_steps : (s : Step) (ss : List Step) → railway_fault [] (s ∷ ss) ≡ fault 3 19 (length (s ∷ ss))

@@ -1,6 +1,6 @@
 -- Which steps make a pair, and which timetables a railway can run by. Assumes nothing.
 use Rattle.std.specs.Prelude.{◌≡◌, ℕ, ◌+◌, ◌<◌, max, ◌⊎◌, List, length, pos, neg_ℤ, Some, None}
-use Rattle.std.specs.List.{AllByRecursion as All, slice_get}
+use Rattle.std.specs.List.{AllByRecursion, slice_get}
 use Rattle.graph.specs.Graph.{Pair, Ranking, Timetable, Keeps, KeepsCase}
 use Rattle.trains.specs.declared.train.Train.{Train}
 use Rattle.trains.specs.declared.train.Step.{Step}
@@ -33,7 +33,7 @@ pub record TripKept (r : Ranking) (w : Timetable) (n : ℕ) (t : Trip) : Type 0 
 -- what a timetable w keeps of a railway: it starts at 0, each trip is kept, and one of two trains on a section goes first
 pub record Runs (r : Ranking) (ts : List Train) (ss : List Step) (w : Timetable) : Type 0 where
   pub starts : w 0 ≡ 0
-  pub each : All (TripKept r w (last_event 1 ts)) (trips 1 ts ss)
+  pub each : AllByRecursion (TripKept r w (last_event 1 ts)) (trips 1 ts ss)
   pub apart : (p : Pair) → Meets (trips 1 ts ss) p → Keeps r w p.first ⊎ Keeps r w p.second
 
 -- a timetable keeps the case of a railway that passes the check exactly where the railway can run by it
