@@ -18,22 +18,22 @@ unfolding size
 size_some zero = omega arith
 size_some (suc q) = omega arith
 
-room_after_lem : ℕ → Option Node → ℕ
-room_after_lem q None = 0
-room_after_lem q (Some y) = room q y
+room_after : ℕ → Option Node → ℕ
+room_after q None = 0
+room_after q (Some y) = room q y
 
-room_turned : (q a : ℕ) (b : Bool) (x : Node) (o : Option Node) → room_after_lem q o + 1 ≤ room q x → eqb a 1 ≡ b → room_after_lem (suc q) (turned a o) + 1 ≤ cond b (room q x + size q) (room q x)
-unfolding room room_after_lem
+room_turned : (q a : ℕ) (b : Bool) (x : Node) (o : Option Node) → room_after q o + 1 ≤ room q x → eqb a 1 ≡ b → room_after (suc q) (turned a o) + 1 ≤ cond b (room q x + size q) (room q x)
+unfolding room room_after
 room_turned q a true x None h e = rw e (omega arith)
 room_turned q a false x None h e = rw e h
 room_turned q a true x (Some y) h e = rw e (omega arith)
 room_turned q a false x (Some y) h e = rw e h
 
-room_after : (q : ℕ) (x : Node) → length x ≤ q → room_after_lem q (after x) + 1 ≤ room q x
-unfolding room room_after_lem
-room_after q [] l = size_some q
-room_after zero (a ∷ x) l = absurd (omega arith)
-room_after (suc q) (a ∷ x) l = room_turned q a (eqb a 1) x (after x) (room_after q x (omega arith)) refl
+room_after_lem : (q : ℕ) (x : Node) → length x ≤ q → room_after q (after x) + 1 ≤ room q x
+unfolding room room_after
+room_after_lem q [] l = size_some q
+room_after_lem zero (a ∷ x) l = absurd (omega arith)
+room_after_lem (suc q) (a ∷ x) l = room_turned q a (eqb a 1) x (after x) (room_after_lem q x (omega arith)) refl
 
 room_branch : (q : ℕ) (x : Node) → length x < q → room q (x ++ (1 ∷ [])) + 1 ≤ room q x
 unfolding room size
@@ -67,15 +67,15 @@ few_branch count false next depth e n l h =
     rw (take_more_set next depth 1 i) (omega (arith, k))
 
 few_after : (count : ℕ) (x y : Node) → length x ≤ 60 → after x ≡ Some y → count + room 60 x ≤ 2 ^ 61 - 1 → count + 1 + room 60 y ≤ 2 ^ 61 - 1
-unfolding room_after_lem
-few_after count x y l e h = let k : room_after_lem 60 (Some y) + 1 ≤ room 60 x = subst (λ (o : Option Node). room_after_lem 60 o + 1 ≤ room 60 x) e (room_after 60 x l) in omega arith
+unfolding room_after
+few_after count x y l e h = let k : room_after 60 (Some y) + 1 ≤ room 60 x = subst (λ (o : Option Node). room_after 60 o + 1 ≤ room 60 x) e (room_after_lem 60 x l) in omega arith
 
 pub few_turn : (count : ℕ) (f : Bool) (next : List ℕ) (depth : ℕ) (to : List ℕ) (d : ℕ) → f ≡ false → length next ≡ 60 → depth ≤ 60 → after (take depth next) ≡ Some (take d to) → Few count f next depth → Few (count + 1) f to d
 few_turn count true next depth to d e n l a h = let z : ◌≡◌ {A = ℕ} 0 1 = cc in absurd (omega arith)
 few_turn count false next depth to d e n l a h = few_after count (take depth next) (take d to) (omega (arith, length-take-le depth next (omega arith))) a h
 
 few_last : (count : ℕ) (x : Node) → length x ≤ 60 → count + room 60 x ≤ 2 ^ 61 - 1 → count + 1 ≤ 2 ^ 61 - 1
-few_last count x l h = omega (arith, room_after 60 x l)
+few_last count x l h = omega (arith, room_after_lem 60 x l)
 
 pub few_end : (count : ℕ) (f : Bool) (next : List ℕ) (depth : ℕ) → f ≡ false → length next ≡ 60 → depth ≤ 60 → Few count f next depth → Few (count + 1) true next 0
 few_end count true next depth e n l h = let z : ◌≡◌ {A = ℕ} 0 1 = cc in absurd (omega arith)

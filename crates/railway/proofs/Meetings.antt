@@ -29,8 +29,8 @@ module _ (ss : List Step) (t : TripRecord) (fits : t.from + t.steps ≤ length s
   steps_end k h = drop_all k (trip_of ss t).steps (omega (arith, trip_length))
 
 -- the pairs of a step with the steps of another trip, from its k-th on
-abbrev pub step_left_lem : List Step → TripRecord → TripRecord → ℕ → Step → ℕ → List Pair
-step_left_lem ss t u e s k = step_pairs (trip_of ss t) (trip_of ss u) e s (u.first + k) (drop k (trip_of ss u).steps)
+abbrev pub step_left : List Step → TripRecord → TripRecord → ℕ → Step → ℕ → List Pair
+step_left ss t u e s k = step_pairs (trip_of ss t) (trip_of ss u) e s (u.first + k) (drop k (trip_of ss u).steps)
 
 next : (a k : ℕ) → a + k + 1 ≡ a + (k + 1)
 next a k = omega arith
@@ -39,22 +39,22 @@ none_on : (a : ℕ) → a + 0 ≡ a
 none_on a = omega arith
 
 module _ (ss : List Step) (t u : TripRecord) (e : ℕ) (s : Step) (fits : u.from + u.steps ≤ length ss) where
-  pub step_start : step_left_lem ss t u e s 0 ≡ step_pairs (trip_of ss t) (trip_of ss u) e s u.first (trip_of ss u).steps
+  pub step_start : step_left ss t u e s 0 ≡ step_pairs (trip_of ss t) (trip_of ss u) e s u.first (trip_of ss u).steps
   step_start = ap (λ f. step_pairs (trip_of ss t) (trip_of ss u) e s f (trip_of ss u).steps) (none_on u.first)
 
   module _ (k : ℕ) (d : Step) (h : k < u.steps) where
-    step_left : step_left_lem ss t u e s k ≡ meeting (trip_of ss t) (trip_of ss u) e s (u.first + k) (get_or ss (u.from + k) d) ++ step_left_lem ss t u e s (k + 1)
-    step_left =
+    step_left_lem : step_left ss t u e s k ≡ meeting (trip_of ss t) (trip_of ss u) e s (u.first + k) (get_or ss (u.from + k) d) ++ step_left ss t u e s (k + 1)
+    step_left_lem =
         ap (step_pairs (trip_of ss t) (trip_of ss u) e s (u.first + k)) (step_at ss u fits k d h)
         ∙ ap (λ f. meeting (trip_of ss t) (trip_of ss u) e s (u.first + k) (get_or ss (u.from + k) d) ++ step_pairs (trip_of ss t) (trip_of ss u) e s f (drop (k + 1) (trip_of ss u).steps)) (next u.first k)
 
-    pub step_meets : s.section ≡ (get_or ss (u.from + k) d).section → step_left_lem ss t u e s k ≡ (met t.kind u.kind e (u.first + k) ∷ []) ++ step_left_lem ss t u e s (k + 1)
-    step_meets q = step_left ∙ ap (λ l. l ++ step_left_lem ss t u e s (k + 1)) (cond-true (eqb s.section (get_or ss (u.from + k) d).section) (met t.kind u.kind e (u.first + k) ∷ []) [] (eq-eqb s.section (get_or ss (u.from + k) d).section q))
+    pub step_meets : s.section ≡ (get_or ss (u.from + k) d).section → step_left ss t u e s k ≡ (met t.kind u.kind e (u.first + k) ∷ []) ++ step_left ss t u e s (k + 1)
+    step_meets q = step_left_lem ∙ ap (λ l. l ++ step_left ss t u e s (k + 1)) (cond-true (eqb s.section (get_or ss (u.from + k) d).section) (met t.kind u.kind e (u.first + k) ∷ []) [] (eq-eqb s.section (get_or ss (u.from + k) d).section q))
 
-    pub step_misses : (s.section ≡ (get_or ss (u.from + k) d).section → ⊥) → step_left_lem ss t u e s k ≡ step_left_lem ss t u e s (k + 1)
-    step_misses q = step_left ∙ ap (λ l. l ++ step_left_lem ss t u e s (k + 1)) (cond-false (eqb s.section (get_or ss (u.from + k) d).section) (met t.kind u.kind e (u.first + k) ∷ []) [] (ne_eqb s.section (get_or ss (u.from + k) d).section q))
+    pub step_misses : (s.section ≡ (get_or ss (u.from + k) d).section → ⊥) → step_left ss t u e s k ≡ step_left ss t u e s (k + 1)
+    step_misses q = step_left_lem ∙ ap (λ l. l ++ step_left ss t u e s (k + 1)) (cond-false (eqb s.section (get_or ss (u.from + k) d).section) (met t.kind u.kind e (u.first + k) ∷ []) [] (ne_eqb s.section (get_or ss (u.from + k) d).section q))
 
-  pub step_end : (k : ℕ) → u.steps ≤ k → step_left_lem ss t u e s k ≡ []
+  pub step_end : (k : ℕ) → u.steps ≤ k → step_left ss t u e s k ≡ []
   step_end k h = ap (step_pairs (trip_of ss t) (trip_of ss u) e s (u.first + k)) (steps_end ss u fits k h)
 
 -- the pairs of two trips, from the k-th step of the first on

@@ -12,7 +12,7 @@ use Rattle.graph.proofs.Raise.{no_cycle}
 use Rattle.bounds.specs.Bounds.{Meaning, AtMost, smaller}
 use Rattle.search.specs.Search.{Node, Plan, Planner, fresh, free, joined, after, waiting, cuts, better, moved_to, settled, raised_to, plan_delay, bound_at, examined, walked, least_over, shown, searched}
 use Rattle.search.specs.Sound.{PlanSound, OnShow, Unbeaten, Sound}
-use Rattle.search.proofs.Nodes.{Any, AnyAfter, Armed, Proper, after_covers, still_waits, other_waits, size, size_is, room, room_none, room_some, waiting_armed, any_weaker, room_after, room_branch, room_after_lem, proper_after, joined_none, length_joined, joined_small, joined_full, joined_held, branched}
+use Rattle.search.proofs.Nodes.{Any, AnyAfter, Armed, Proper, after_covers, still_waits, other_waits, size, size_is, room, room_none, room_some, waiting_armed, any_weaker, room_after_lem, room_branch, room_after, proper_after, joined_none, length_joined, joined_small, joined_full, joined_held, branched}
 
 -- the plan, a cut and a full node
 pub unbeaten_by_cut : (o : Option ℤ) (p : Option Plan) (d : ℕ) → cuts o p ≡ true → AtMost o d → Unbeaten p d
@@ -93,7 +93,7 @@ fresh_keeps c r hs s =
     }
 
 -- a Planner that has examined a node
-pub moved_keeps : (c : Case) (r : Ranking) (w : Planner) (p : Option Plan) (o : Option Node) → Inv c r w → Proper (free w.holds) o → OnShow c r w.holds p → ((t : Timetable) → KeepsCase r c t → KeepsArms r c w.holds t → Unbeaten p (delay c t) ⊎ AnyAfter (λ y. KeepsArms r c (joined w.holds y) t) o) → w.count + 1 + room_after_lem (free w.holds) o ≤ size (free w.holds) → Inv c r (moved_to w p o)
+pub moved_keeps : (c : Case) (r : Ranking) (w : Planner) (p : Option Plan) (o : Option Node) → Inv c r w → Proper (free w.holds) o → OnShow c r w.holds p → ((t : Timetable) → KeepsCase r c t → KeepsArms r c w.holds t → Unbeaten p (delay c t) ⊎ AnyAfter (λ y. KeepsArms r c (joined w.holds y) t) o) → w.count + 1 + room_after (free w.holds) o ≤ size (free w.holds) → Inv c r (moved_to w p o)
 moved_keeps c r w p None i m s f l =
     record {
       selection = i.selection;
@@ -156,7 +156,7 @@ module _ (c : Case) (r : Ranking) (m : Meaning) (bounded : (s : Selection) → I
         | inr (inl h) ↦ inl (unbeaten_by_cut (bound_at c r m w.holds w.next) w.plan (delay c t) b (bounded (joined w.holds w.next) (joined_selection c w.holds w.next i.selection i.armed) t k h))
         | inr (inr h) ↦ inr (after_covers w.next (λ y. KeepsArms r c (joined w.holds y) t) h)
       ])
-      (omega (arith, open_few w e i, room_after (free w.holds) w.next i.short))
+      (omega (arith, open_few w e i, room_after_lem (free w.holds) w.next i.short))
 
   branch_keeps : (w : Planner) → w.finished ≡ false → Inv c r w → length w.next < free w.holds → Inv c r (moved_to w w.plan (Some (w.next ++ (1 ∷ []))))
   branch_keeps w e i l =
@@ -181,7 +181,7 @@ module _ (c : Case) (r : Ranking) (m : Meaning) (bounded : (s : Selection) → I
         | inr (inl h) ↦ inl (better_beats c r (joined w.holds w.next) (least_times r c (joined w.holds w.next)) w.plan t (worked (joined w.holds w.next)) k.starts (All-append (Keeps r t) c.fixed (selected (joined w.holds w.next) c.pairs) k.keeps_fixed h))
         | inr (inr h) ↦ inr (after_covers w.next (λ y. KeepsArms r c (joined w.holds y) t) h)
       ])
-      (omega (arith, open_few w e i, room_after (free w.holds) w.next i.short))
+      (omega (arith, open_few w e i, room_after_lem (free w.holds) w.next i.short))
 
   pub examined_keeps : (w : Planner) → w.finished ≡ false → Inv c r w → Inv c r (examined c r m w)
   examined_keeps w e i =

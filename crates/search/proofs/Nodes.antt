@@ -92,22 +92,22 @@ room_some q [] l = size_some q
 room_some zero (a ∷ x) l = absurd (omega arith)
 room_some (suc q) (a ∷ x) l = let h : 1 ≤ room q x = room_some q x (omega arith) in cond_both (eqb a 1) (room q x + size q) (room q x) (λ n. 1 ≤ n) (λ e. omega arith) (λ e. h)
 
-abbrev pub room_after_lem : ℕ → Option Node → ℕ
-room_after_lem q None = 0
-room_after_lem q (Some y) = room q y
+abbrev pub room_after : ℕ → Option Node → ℕ
+room_after q None = 0
+room_after q (Some y) = room q y
 
-room_turned : (q a : ℕ) (b : Bool) (x : Node) (o : Option Node) → room_after_lem q o + 1 ≤ room q x → eqb a 1 ≡ b → room_after_lem (suc q) (turned a o) + 1 ≤ cond b (room q x + size q) (room q x)
+room_turned : (q a : ℕ) (b : Bool) (x : Node) (o : Option Node) → room_after q o + 1 ≤ room q x → eqb a 1 ≡ b → room_after (suc q) (turned a o) + 1 ≤ cond b (room q x + size q) (room q x)
 unfolding room
 room_turned q a true x None h e = rw e (omega arith)
 room_turned q a false x None h e = rw e h
 room_turned q a true x (Some y) h e = rw e (omega arith)
 room_turned q a false x (Some y) h e = rw e h
 
-pub room_after : (q : ℕ) (x : Node) → length x ≤ q → room_after_lem q (after x) + 1 ≤ room q x
+pub room_after_lem : (q : ℕ) (x : Node) → length x ≤ q → room_after q (after x) + 1 ≤ room q x
 unfolding room
-room_after q [] l = size_some q
-room_after zero (a ∷ x) l = absurd (omega arith)
-room_after (suc q) (a ∷ x) l = room_turned q a (eqb a 1) x (after x) (room_after q x (omega arith)) refl
+room_after_lem q [] l = size_some q
+room_after_lem zero (a ∷ x) l = absurd (omega arith)
+room_after_lem (suc q) (a ∷ x) l = room_turned q a (eqb a 1) x (after x) (room_after_lem q x (omega arith)) refl
 
 pub room_branch : (q : ℕ) (x : Node) → length x < q → room q (x ++ (1 ∷ [])) + 1 ≤ room q x
 unfolding room size

@@ -12,7 +12,7 @@ use Rattle.graph.proofs.Raise.{worked_out}
 use Rattle.bounds.specs.Bounds.{Meaning, AtMost}
 use Rattle.search.specs.Search.{Node, Plan, Planner, fresh, opened, free, joined, after, waiting, cuts, better, moved_to, settled, raised_to, plan_delay, bound_at, examined, walked, least_over, shown, searched}
 use Rattle.search.specs.Sound.{Call, to_hold, to_release, to_search, refusal, taken, unless_refused, called, called_all, OnShow, reached, WalkLaws}
-use Rattle.search.proofs.Nodes.{Armed, Proper, size, size_is, room, room_none, room_some, room_after, room_branch, room_after_lem, proper_after, all_left, all_right}
+use Rattle.search.proofs.Nodes.{Armed, Proper, size, size_is, room, room_none, room_some, room_after_lem, room_branch, room_after, proper_after, all_left, all_right}
 use Rattle.search.proofs.Keeps.{Inv, left, walked_keeps}
 use Rattle.search.proofs.Calls.{all_keep, opened_keeps}
 use Rattle.search.proofs.Progress.{walked_holds, searched_goes_on}
@@ -54,7 +54,7 @@ pub record Placed (w : Planner) : Type 0 where
 fresh_placed : (hs : Selection) → Placed (fresh hs)
 fresh_placed hs = record { armed = tt; short = omega arith; few = omega (arith, room_none (free hs)) }
 
-moved_placed : (w : Planner) (p : Option Plan) (o : Option Node) → Proper (free w.holds) o → w.count + 1 + room_after_lem (free w.holds) o ≤ size (free w.holds) → Placed (moved_to w p o)
+moved_placed : (w : Planner) (p : Option Plan) (o : Option Node) → Proper (free w.holds) o → w.count + 1 + room_after (free w.holds) o ≤ size (free w.holds) → Placed (moved_to w p o)
 moved_placed w p None m l = record { armed = tt; short = omega arith; few = l }
 moved_placed w p (Some x) m l = record { armed = m.0; short = m.1; few = l }
 
@@ -69,7 +69,7 @@ whole w i h =
 
 module _ (c : Case) (r : Ranking) (m : Meaning) where
   onward : (w : Planner) (p : Option Plan) → w.finished ≡ false → Placed w → Placed (moved_to w p (after w.next))
-  onward w p e i = moved_placed w p (after w.next) (proper_after (free w.holds) w.next i.armed i.short) (omega (arith, open_room w e i, room_after (free w.holds) w.next i.short))
+  onward w p e i = moved_placed w p (after w.next) (proper_after (free w.holds) w.next i.armed i.short) (omega (arith, open_room w e i, room_after_lem (free w.holds) w.next i.short))
 
   downward : (w : Planner) → w.finished ≡ false → Placed w → length w.next < free w.holds → Placed (moved_to w w.plan (Some (w.next ++ (1 ∷ []))))
   downward w e i l =
