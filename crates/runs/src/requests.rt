@@ -13,7 +13,7 @@ use planner::Planner;
 use search::PlannerFault;
 
 /// A call that is asked for of a planner.
-#[derive(Clone, Copy)]
+#[derive(Clone, Copy, Debug, PartialEq, Eq)]
 pub enum Request {
     /// Hold an arm of a pair.
     Hold(usize, u8),
