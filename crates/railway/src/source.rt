@@ -72,10 +72,10 @@ pub struct Railway<'a> {
     pairs: [Pair; 60],
     pairs_len: usize,
     ghost last: { end ≡ (railway_case trains.now steps.now).end },
-    ghost fewFixed: { fixed_len ≤ 216 },
-    ghost fewPairs: { pairs_len ≤ 60 },
-    ghost fixedListed: { arc_codes (arcs_in fixed_len fixed) ≡ arc_codes (railway_case trains.now steps.now).fixed },
-    ghost pairsListed: { pair_codes (pairs_in pairs_len pairs) ≡ pair_codes (railway_case trains.now steps.now).pairs },
+    ghost few_fixed: { fixed_len ≤ 216 },
+    ghost few_pairs: { pairs_len ≤ 60 },
+    ghost fixed_listed: { arc_codes (arcs_in fixed_len fixed) ≡ arc_codes (railway_case trains.now steps.now).fixed },
+    ghost pairs_listed: { pair_codes (pairs_in pairs_len pairs) ≡ pair_codes (railway_case trains.now steps.now).pairs },
 }
 
 impl<'a> Railway<'a> {

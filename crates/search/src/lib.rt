@@ -7,8 +7,12 @@
 mod examples;
 mod faults;
 mod laws;
+mod more_walk_laws;
+mod walk_laws;
 mod words;
 
 pub use examples::examples_hold;
 pub use faults::{PlanMessageFault, PlannerFault};
-pub use laws::{always_sound, more_walk_laws_hold, walk_laws_hold};
+pub use laws::always_sound;
+pub use more_walk_laws::more_walk_laws_hold;
+pub use walk_laws::walk_laws_hold;
