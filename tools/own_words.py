@@ -1,11 +1,18 @@
 #!/usr/bin/env python3
 """The words `All` and `Has` of the older library are AllByRecursion and ContainsAt today, and the gate refuses the
-library's `All` as a name for anything else: the files that bring them in under the old words use the new ones."""
+library's `All` as a name for anything else: the files that bring them in under the old words use the new ones. And the
+four ghost fields that are not in snake case are spelled so. Run once, at the top, after tools/respell.py."""
 
 import os
 import re
 
 WORDS = {"All": "AllByRecursion", "Has": "ContainsAt"}
+FIELDS = {
+    "fewFixed": "few_fixed",
+    "fewPairs": "few_pairs",
+    "fixedListed": "fixed_listed",
+    "pairsListed": "pairs_listed",
+}
 
 
 def main():
@@ -17,7 +24,7 @@ def main():
             path = os.path.join(folder, name)
             with open(path, encoding="utf-8") as f:
                 text = f.read()
-            done = text
+            done = re.sub(r"\b(" + "|".join(FIELDS) + r")\b", lambda m: FIELDS[m.group(1)], text)
             for old, new in WORDS.items():
                 if f"{new} as {old}" in done:
                     done = done.replace(f"{new} as {old}", new)
