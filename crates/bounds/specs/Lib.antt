@@ -1,3 +1,4 @@
 pub mod Bounds
 pub mod Told
 pub mod Lower
+pub mod Named

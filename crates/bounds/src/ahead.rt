@@ -26,7 +26,7 @@ fn with_arm<S: CaseSource, V: TimeMeasure>(
 ) -> Option<V>
     requires pair { pair < 60 }
     requires arm { arm ≤ 2 }
-    ensures { BoundTold V.TimeMeasure.rank V.TimeMeasure.ranking (S.CaseSource.means source.now).case (with_arm pair arm) arms.old arms.new times.old times.new result }
+    ensures { BoundTold V.TimeMeasure.rank V.TimeMeasure.ranking (S.CaseSource.means source.now) (with_arm pair arm) arms.old arms.new times.old times.new result }
 {
     let before = arms[pair];
     let trial = Trial { arms, pair, before };
@@ -42,7 +42,7 @@ fn with_either<S: CaseSource, V: TimeMeasure>(
     pair: usize,
 ) -> Option<V>
     requires { pair < 60 }
-    ensures { BoundTold V.TimeMeasure.rank V.TimeMeasure.ranking (S.CaseSource.means source.now).case (with_either pair) arms.old arms.new times.old times.new result }
+    ensures { BoundTold V.TimeMeasure.rank V.TimeMeasure.ranking (S.CaseSource.means source.now) (with_either pair) arms.old arms.new times.old times.new result }
 {
     let first = with_arm(source, arms, times, pair, 1);
     let second = with_arm(source, arms, times, pair, 2);
@@ -51,7 +51,7 @@ fn with_either<S: CaseSource, V: TimeMeasure>(
 
 /// The longest path, and one pair ahead: each undecided pair is tried with either arm, and its value is the smaller
 /// longest path. The answer is the largest of these and the longest path.
-#[derive(Clone, Copy)]
+#[derive(Clone, Copy, Debug, PartialEq, Eq)]
 pub struct LookAhead;
 
 impl Bound for LookAhead {
@@ -66,6 +66,7 @@ impl Bound for LookAhead {
         times: &mut [V],
     ) -> Option<V> {
         let mut best = LongestPath.ask(source, arms, times);
+        // Kept: the whole table of arms is lent to each trial, so nothing may iterate over it meanwhile.
         for pair in 0..source.pair_count() {
             if is_undecided(arms[pair]) {
                 let tried = with_either(source, arms, times, pair);

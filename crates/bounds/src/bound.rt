@@ -17,7 +17,7 @@ pub trait Bound: Copy {
         arms: &mut [u8; 60],
         times: &mut [V],
     ) -> Option<V>
-        ensures { BoundTold V.TimeMeasure.rank V.TimeMeasure.ranking (S.CaseSource.means source.now).case (meaning self.now) arms.old arms.new times.old times.new result };
+        ensures { BoundTold V.TimeMeasure.rank V.TimeMeasure.ranking (S.CaseSource.means source.now) (meaning self.now) arms.old arms.new times.old times.new result };
 
     ghost lower: { (b : Self) → LowerBound (meaning b) };
 }

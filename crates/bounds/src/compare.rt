@@ -8,10 +8,8 @@ use graph::TimeMeasure;
 pub fn later<V: TimeMeasure>(one: Option<V>, other: Option<V>) -> Option<V>
     ensures { (x y : Option ℤ) → RankIs V.TimeMeasure.rank one x → RankIs V.TimeMeasure.rank other y → RankIs V.TimeMeasure.rank result (larger x y) }
 {
-    match (one, other) {
-        (Some(a), Some(b)) => Some(if b.is_below(a) { a } else { b }),
-        _ => None,
-    }
+    let (a, b) = (one?, other?);
+    Some(if b.is_below(a) { a } else { b })
 }
 
 /// The earlier of two times, of those that there are.

@@ -6,7 +6,7 @@ use super::compare::later;
 use graph::{CaseSource, TimeMeasure};
 
 /// The larger of two bounds.
-#[derive(Clone, Copy)]
+#[derive(Clone, Copy, Debug, PartialEq, Eq)]
 pub struct Larger<A, B> {
     pub one: A,
     pub other: B,

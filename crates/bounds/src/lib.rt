@@ -9,6 +9,7 @@ mod compare;
 mod larger;
 mod laws;
 mod longest;
+mod named;
 mod trial;
 
 pub use ahead::LookAhead;
@@ -17,3 +18,4 @@ pub use compare::{earlier, later};
 pub use larger::Larger;
 pub use laws::bounds_laws_hold;
 pub use longest::LongestPath;
+pub use named::{NamedBound, UnknownBound};

@@ -5,7 +5,7 @@ use super::bound::Bound;
 use graph::{CaseSource, TimeMeasure, least_times};
 
 /// The longest path: the least time of the last event.
-#[derive(Clone, Copy)]
+#[derive(Clone, Copy, Debug, PartialEq, Eq)]
 pub struct LongestPath;
 
 impl Bound for LongestPath {

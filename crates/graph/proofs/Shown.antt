@@ -24,6 +24,12 @@ module _ {V : Type 0} (rank : V → ℤ) where
   shows_set (x ∷ vs) (t ∷ ts) zero v u s e = (e, s.1)
   shows_set (x ∷ vs) (t ∷ ts) (suc i) v u s e = (s.0, shows_set vs ts i v u s.1 e)
 
+  -- more values behind those that show the ranks
+  pub shows_more : (vs : List V) (ts : List ℕ) (ws : List V) → Shows rank vs ts → Shows rank (vs ++ ws) ts
+  shows_more vs [] ws s = tt
+  shows_more [] (t ∷ ts) ws s = absurd s
+  shows_more (v ∷ vs) (t ∷ ts) ws s = (s.0, shows_more vs ts ws s.1)
+
   pub shows_same : (vs : List V) (ts us : List ℕ) → length ts ≡ length us → Shows rank vs ts → Shows rank vs us → ts ≡ us
   shows_same vs [] [] l s q = refl
   shows_same vs [] (u ∷ us) l s q = absurd (omega arith)

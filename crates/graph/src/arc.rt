@@ -1,3 +1,6 @@
+ghost use Rattle.std.specs.Prelude.{◌≡◌};
+ghost use Rattle.graph.specs.Views.{arc_found, arm_of, pair_of};
+
 /// An arc of a case: event `to` comes no earlier than event `from` plus the arc's rank, which a time measure makes of
 /// the weight in seconds and the mark.
 #[derive(Clone, Copy, Debug, PartialEq, Eq)]
@@ -14,4 +17,17 @@ pub struct Arc {
 pub struct Pair {
     pub first: Arc,
     pub second: Arc,
+}
+
+impl Pair {
+    /// Arm 1 or 2; there is no other.
+    pub fn arm(self, arm: u8) -> Option<Arc>
+        ensures { arc_found result ≡ arm_of arm (pair_of self) }
+    {
+        match arm {
+            1 => Some(self.first),
+            2 => Some(self.second),
+            _ => None,
+        }
+    }
 }

@@ -5,10 +5,12 @@
 
 mod arc;
 mod measure;
+mod refusal;
 mod source;
 mod times;
 
 pub use arc::{Arc, Pair};
 pub use measure::TimeMeasure;
+pub use refusal::Refusal;
 pub use source::CaseSource;
-pub use times::{TooFewPlaces, least_times};
+pub use times::{TooFewPlaces, clear_times, least_times};

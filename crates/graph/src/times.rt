@@ -3,14 +3,14 @@ ghost use Rattle.graph.specs.Graph.{selection_of};
 ghost use Rattle.graph.specs.Times.{kept_all, TimesLaw};
 ghost use Rattle.graph.specs.Views.{arc_of, arc_found, Shows};
 ghost use Rattle.graph.specs.Steps.{places, arcs_of, Raisable, Ready, ArcRaised, RoundRaised, RoundsMade, LookedAt};
-ghost use Rattle.graph.specs.Told.{TimesTold};
+ghost use Rattle.graph.specs.Told.{TimesCleared, TimesTold};
 
 use super::arc::Arc;
 use super::measure::TimeMeasure;
 use super::source::CaseSource;
 
 /// A call for times was handed fewer places than the case has events.
-#[derive(Clone, Copy)]
+#[derive(Clone, Copy, Debug, PartialEq, Eq)]
 pub struct TooFewPlaces {
     /// How many places the case asks for: one for each event.
     pub needed: usize,
@@ -43,110 +43,122 @@ fn is_kept<V: TimeMeasure>(arc: Arc, times: &[V]) -> bool
     !times[arc.to as usize].is_below(reached)
 }
 
-/// How many indices a selection of the case has: one for each fixed arc, then one for each pair.
-fn place_count<S: CaseSource>(source: &S) -> usize
-    ensures { result ≡ length (S.CaseSource.means source.now).case.fixed + length (S.CaseSource.means source.now).case.pairs }
-{
-    source.fixed_count() + source.pair_count()
+/// A selection of a source's case: of each pair the arm that a table of arms says, if it says one.
+#[derive(Clone, Copy)]
+struct Selection<'a, S> {
+    source: &'a S,
+    arms: &'a [u8; 60],
 }
 
-/// The arc at an index: a fixed arc, or the arm that is selected of a pair, if one is.
-fn arc_at<S: CaseSource>(source: &S, arms: &[u8; 60], at: usize) -> Option<Arc>
-    requires { at < length (S.CaseSource.means source.now).case.fixed + length (S.CaseSource.means source.now).case.pairs }
-    ensures { arc_found result ≡ slice_index_or (places (S.CaseSource.means source.now).case arms.now) at None }
-{
-    let fixed = source.fixed_count();
-    if at < fixed {
-        source.fixed_arc(at)
-    } else {
-        let pair = at - fixed;
-        source.arm(pair, arms[pair])
+impl<'a, S: CaseSource> Selection<'a, S> {
+    /// How many indices there are: one for each fixed arc, then one for each pair.
+    fn place_count(&self) -> usize
+        ensures { result ≡ length (S.CaseSource.means self.now.source.now).fixed + length (S.CaseSource.means self.now.source.now).pairs }
+    {
+        self.source.fixed_count() + self.source.pair_count()
     }
-}
 
-/// Raises along each arc once, and says whether a time changed.
-fn raise_round<S: CaseSource, V: TimeMeasure>(source: &S, arms: &[u8; 60], times: &mut [V]) -> bool
-    requires { (S.CaseSource.means source.now).case.end < length times.old }
-    ensures { RoundRaised V.TimeMeasure.rank V.TimeMeasure.ranking (S.CaseSource.means source.now).case arms.now times.old times.new result }
-{
-    let mut changed = false;
-    for at in 0..place_count(source) {
-        if let Some(arc) = arc_at(source, arms, at) {
-            if raise_by(arc, times) {
-                changed = true;
+    /// The arc at an index: a fixed arc, or the arm that is selected of a pair, if one is.
+    fn arc_at(&self, at: usize) -> Option<Arc>
+        requires { at < length (S.CaseSource.means self.now.source.now).fixed + length (S.CaseSource.means self.now.source.now).pairs }
+        ensures { arc_found result ≡ slice_index_or (places (S.CaseSource.means self.now.source.now) self.now.arms.now) at None }
+    {
+        let fixed = self.source.fixed_count();
+        if at < fixed {
+            self.source.fixed_arc(at)
+        } else {
+            let pair = at - fixed;
+            self.source.arm(pair, self.arms[pair])
+        }
+    }
+
+    /// Raises along each arc once, and says whether a time changed.
+    fn raise_round<V: TimeMeasure>(&self, times: &mut [V]) -> bool
+        requires { (S.CaseSource.means self.now.source.now).end < length times.old }
+        ensures { RoundRaised V.TimeMeasure.rank V.TimeMeasure.ranking (S.CaseSource.means self.now.source.now) self.now.arms.now times.old times.new result }
+    {
+        let mut changed = false;
+        // Kept: a source is asked for its arcs by number, so that a message is read in place and no list of arcs is made.
+        for at in 0..self.place_count() {
+            if let Some(arc) = self.arc_at(at) {
+                changed |= raise_by(arc, times);
+            }
+        }
+        changed
+    }
+
+    /// Whether the times keep every arc.
+    fn all_kept<V: TimeMeasure>(&self, times: &[V]) -> bool
+        requires { (S.CaseSource.means self.now.source.now).end < length times.now }
+        ensures { (ts : List ℕ) → Ready (S.CaseSource.means self.now.source.now).end ts → Shows V.TimeMeasure.rank times.now ts → result ≡ kept_all V.TimeMeasure.ranking ts (arcs_of (S.CaseSource.means self.now.source.now) self.now.arms.now) }
+    {
+        // Kept: as in `raise_round`.
+        for at in 0..self.place_count() {
+            if let Some(arc) = self.arc_at(at) {
+                if !is_kept(arc, times) {
+                    return false;
+                }
+            }
+        }
+        true
+    }
+
+    /// Makes rounds until one changes nothing, and at most one for each event after the first.
+    fn settle<V: TimeMeasure>(&self, times: &mut [V])
+        requires room { (S.CaseSource.means self.now.source.now).end < length times.old }
+        requires zeros { Shows V.TimeMeasure.rank times.old (replicate ((S.CaseSource.means self.now.source.now).end + 1) 0) }
+        ensures { RoundsMade V.TimeMeasure.rank V.TimeMeasure.ranking (S.CaseSource.means self.now.source.now) self.now.arms.now times.old times.new }
+    {
+        for _round in 0..self.source.end() {
+            if !self.raise_round(times) {
+                return;
             }
         }
     }
-    changed
-}
 
-/// Whether the times keep every arc.
-fn all_kept<S: CaseSource, V: TimeMeasure>(source: &S, arms: &[u8; 60], times: &[V]) -> bool
-    requires { (S.CaseSource.means source.now).case.end < length times.now }
-    ensures { (ts : List ℕ) → Ready (S.CaseSource.means source.now).case.end ts → Shows V.TimeMeasure.rank times.now ts → result ≡ kept_all V.TimeMeasure.ranking ts (arcs_of (S.CaseSource.means source.now).case arms.now) }
-{
-    for at in 0..place_count(source) {
-        if let Some(arc) = arc_at(source, arms, at) {
-            if !is_kept(arc, times) {
-                return false;
-            }
-        }
-    }
-    true
-}
-
-/// Sets the first times to zero.
-fn reset<V: TimeMeasure>(count: usize, times: &mut [V])
-    requires { count ≤ length times.old }
-    ensures zeros { Shows V.TimeMeasure.rank times.new (replicate count 0) }
-    ensures behind { drop count times.new ≡ drop count times.old }
-{
-    for at in 0..count {
-        times[at] = V::zero();
+    /// Whether the times that rounds have left are the least times: event 0 is still at zero, and every arc is kept.
+    fn are_least<V: TimeMeasure>(&self, times: &[V]) -> bool
+        requires { (S.CaseSource.means self.now.source.now).end < length times.now }
+        ensures { LookedAt V.TimeMeasure.rank V.TimeMeasure.ranking (S.CaseSource.means self.now.source.now) self.now.arms.now times.now result }
+    {
+        !V::zero().is_below(times[0]) && self.all_kept(times)
     }
 }
 
-/// Makes rounds until one changes nothing, and at most one for each event after the first.
-fn settle<S: CaseSource, V: TimeMeasure>(source: &S, arms: &[u8; 60], times: &mut [V])
-    requires room { (S.CaseSource.means source.now).case.end < length times.old }
-    requires zeros { Shows V.TimeMeasure.rank times.old (replicate ((S.CaseSource.means source.now).case.end + 1) 0) }
-    ensures { RoundsMade V.TimeMeasure.rank V.TimeMeasure.ranking (S.CaseSource.means source.now).case arms.now times.old times.new }
+/// Sets the first places, one for each event, to zero; what lies behind stays. Handed fewer places, it writes nothing.
+pub fn clear_times<S: CaseSource, V: TimeMeasure>(
+    source: &S,
+    times: &mut [V],
+) -> Result<(), TooFewPlaces>
+    ensures { TimesCleared V.TimeMeasure.rank (S.CaseSource.means source.now) times.old times.new result }
 {
-    for _round in 0..source.end() {
-        if !raise_round(source, arms, times) {
-            return;
-        }
+    let needed = source.end() + 1;
+    if times.len() < needed {
+        return Err(TooFewPlaces { needed });
     }
-}
-
-/// Whether the times that rounds have left are the least times: event 0 is still at zero, and every arc is kept.
-fn are_least<S: CaseSource, V: TimeMeasure>(source: &S, arms: &[u8; 60], times: &[V]) -> bool
-    requires { (S.CaseSource.means source.now).case.end < length times.now }
-    ensures { LookedAt V.TimeMeasure.rank V.TimeMeasure.ranking (S.CaseSource.means source.now).case arms.now times.now result }
-{
-    !V::zero().is_below(times[0]) && all_kept(source, arms, times)
+    for time in &mut times[..needed] {
+        *time = V::zero();
+    }
+    Ok(())
 }
 
 /// Works out the least times of a selection, and says whether there are any. The first places, one for each event, then
 /// hold them, or zeros where there are none; what lies behind stays. Handed fewer places, it writes nothing.
+#[tactic(auto, using(crate::proofs::Raise::times_laws))]
 pub fn least_times<S: CaseSource, V: TimeMeasure>(
     source: &S,
     arms: &[u8; 60],
     times: &mut [V],
 ) -> Result<bool, TooFewPlaces>
-    ensures told { TimesTold V.TimeMeasure.rank V.TimeMeasure.ranking (S.CaseSource.means source.now).case (selection_of (S.CaseSource.means source.now).case.pairs arms.now) times.old times.new result }
-    ensures law { TimesLaw V.TimeMeasure.ranking (S.CaseSource.means source.now).case (selection_of (S.CaseSource.means source.now).case.pairs arms.now) }
+    ensures told { TimesTold V.TimeMeasure.rank V.TimeMeasure.ranking (S.CaseSource.means source.now) (selection_of (S.CaseSource.means source.now).pairs arms.now) times.old times.new result }
+    ensures law { TimesLaw V.TimeMeasure.ranking (S.CaseSource.means source.now) (selection_of (S.CaseSource.means source.now).pairs arms.now) }
 {
-    let end = source.end();
-    let needed = end + 1;
-    if times.len() < needed {
-        return Err(TooFewPlaces { needed });
+    clear_times(source, times)?;
+    let selection = Selection { source, arms };
+    selection.settle(times);
+    if selection.are_least(times) {
+        return Ok(true);
     }
-    reset(needed, times);
-    settle(source, arms, times);
-    let found = are_least(source, arms, times);
-    if !found {
-        reset(needed, times);
-    }
-    Ok(found)
+    clear_times(source, times)?;
+    Ok(false)
 }

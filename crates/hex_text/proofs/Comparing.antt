@@ -1,36 +1,59 @@
 -- Two lists compared from the front. Assumes nothing.
-use Rattle.std.proofs.Common.{◌≡◌, ℕ, ◌+◌, ◌<◌, ◌≤◌, min, List, length, get_or, take, Some, subst, inl, inr, arith}
-use Rattle.std.specs.List.{slice_get}
-use Rattle.std.proofs.lemmas.List.{take_more, take_all}
-use Rattle.std.proofs.lemmas.Option.{slice_get-get_or, slice_get_past}
-use Rattle.std.proofs.lemmas.Bool.{cases_order}
+use Rattle.std.proofs.Common.{◌≡◌, ℕ, zero, suc, ◌+◌, ◌==◌, true, false, min, List, [], ◌∷◌, length, None, Some, Option, subst, sym, refl, inl, inr, arith}
+use Rattle.std.proofs.Math.Bool.{not}
+use Rattle.std.specs.List.{zip, position_from}
+use Rattle.std.proofs.lemmas.Bool.{cases_eq}
+use Rattle.std.proofs.lemmas.Bool.Decides.{nat_tests}
 use Rattle.hex_text.specs.Hex.{Differs}
 
-module _ (xs ys : List ℕ) where
-  pub differs_at : (k : ℕ) → k < length xs → k < length ys → take k xs ≡ take k ys → (get_or xs k 0 ≡ get_or ys k 0 → ⊥) → Differs xs ys (Some k)
-  differs_at k h i e n = (e, λ q. n (let a = slice_get-get_or xs k 0 h in let b = slice_get-get_or ys k 0 i in cc))
+-- where two lists differ first, as told of the rest of two rows from an index on; none where one is the front of the other
+abbrev pub Told : ℕ → List ℕ → List ℕ → Option ℕ → Type 0
+Told i xs ys None = (length xs ≡ length ys → xs ≡ ys) × ((k : ℕ) → k ≡ min (length xs) (length ys) → (length xs ≡ length ys → ⊥) → Differs xs ys (Some k))
+Told i xs ys (Some k) = (j : ℕ) × (k ≡ i + j) × Differs xs ys (Some j)
 
-  pub same_more : (k : ℕ) → k < length xs → k < length ys → take k xs ≡ take k ys → get_or xs k 0 ≡ get_or ys k 0 → take (k + 1) xs ≡ take (k + 1) ys
-  same_more k h i e q = let a = take_more xs k 0 h in let b = take_more ys k 0 i in cc
+abbrev pub first_unequal_from : ℕ → List ℕ → List ℕ → Option ℕ
+first_unequal_from i xs ys = position_from (λ p. not (p.0 == p.1)) i (zip xs ys)
 
-  pub same_all : (k : ℕ) → length xs ≤ k → length ys ≤ k → take k xs ≡ take k ys → xs ≡ ys
-  same_all k h i e = let a = take_all k xs h in let b = take_all k ys i in cc
+same_test : (x y : ℕ) → x ≡ y → not (x == y) ≡ false
+same_test x y e = grind (arith, nat_tests)
 
-  pub differs_end : (k m : ℕ) → k ≡ m → m ≡ min (length xs) (length ys) → take k xs ≡ take k ys → (length xs ≡ length ys → ⊥) → Differs xs ys (Some m)
-  differs_end k m q s e n = (
-    subst (λ (j : ℕ). take j xs ≡ take j ys) q e,
-    λ z. n (ends m s z),
-  )
-    where
-      one_longer : (m : ℕ) → length xs ≤ m → m < length ys → slice_get xs m ≡ slice_get ys m → ⊥
-      one_longer m h i z = let a = slice_get_past xs m h in let b = slice_get-get_or ys m 0 i in let o : ◌≡◌ {A = ℕ} 0 1 = cc in omega arith
+other_test : (x y : ℕ) → (x ≡ y → ⊥) → not (x == y) ≡ true
+other_test x y n = grind (arith, nat_tests)
 
-      other_longer : (m : ℕ) → m < length xs → length ys ≤ m → slice_get xs m ≡ slice_get ys m → ⊥
-      other_longer m h i z = let a = slice_get-get_or xs m 0 h in let b = slice_get_past ys m i in let o : ◌≡◌ {A = ℕ} 0 1 = cc in omega arith
+module _ (x y : ℕ) (xs ys : List ℕ) (e : x ≡ y) where
+  differs_more : (k : ℕ) → Differs xs ys (Some k) → Differs (x ∷ xs) (y ∷ ys) (Some (suc k))
+  differs_more k d = ((λ j. e j ∷ d.0 j), d.1)
 
-      ends : (m : ℕ) → m ≡ min (length xs) (length ys) → slice_get xs m ≡ slice_get ys m → length xs ≡ length ys
-      ends m s z =
-          elim (cases_order (length xs) (length ys)) [
-            | inl e ↦ e
-            | inr o ↦ elim o [ inl lt ↦ absurd (one_longer m (omega arith) (omega arith) z) | inr gt ↦ absurd (other_longer m (omega arith) (omega arith) z) ]
-          ]
+  end_more : ((k : ℕ) → k ≡ min (length xs) (length ys) → (length xs ≡ length ys → ⊥) → Differs xs ys (Some k)) → (k : ℕ) → k ≡ min (suc (length xs)) (suc (length ys)) → (suc (length xs) ≡ suc (length ys) → ⊥) → Differs (x ∷ xs) (y ∷ ys) (Some k)
+  end_more m zero h n = absurd (omega arith)
+  end_more m (suc k) h n = differs_more k (m k (omega arith) (λ z. n (omega arith)))
+
+  told_more : (i : ℕ) (o : Option ℕ) → Told (i + 1) xs ys o → Told i (x ∷ xs) (y ∷ ys) o
+  told_more i None m = ((λ h j. e j ∷ m.0 (omega (arith, h)) j), end_more m.1)
+  told_more i (Some k) (j, h, m) = (suc j, omega (arith, h), differs_more j m)
+
+one_empty : (y : ℕ) (ys : List ℕ) (k : ℕ) → k ≡ min 0 (suc (length ys)) → Differs [] (y ∷ ys) (Some k)
+one_empty y ys zero h = (refl, λ z. cc)
+one_empty y ys (suc k) h = absurd (omega arith)
+
+other_empty : (x : ℕ) (xs : List ℕ) (k : ℕ) → k ≡ min (suc (length xs)) 0 → Differs (x ∷ xs) [] (Some k)
+other_empty x xs zero h = (refl, λ z. cc)
+other_empty x xs (suc k) h = absurd (omega arith)
+
+some_same : (x y : ℕ) → Some x ≡ Some y → x ≡ y
+some_same x y e = cc
+
+pub told : (i : ℕ) (xs ys : List ℕ) → Told i xs ys (first_unequal_from i xs ys)
+told i [] [] = (λ e. refl, λ k h n. absurd (n refl))
+told i [] (y ∷ ys) = (λ e. absurd (omega arith), λ k h n. one_empty y ys k h)
+told i (x ∷ xs) [] = (λ e. absurd (omega arith), λ k h n. other_empty x xs k h)
+told i (x ∷ xs) (y ∷ ys) = elim (cases_eq x y) [
+  | inl e ↦ rw (same_test x y e) (told_more x y xs ys e i (first_unequal_from (i + 1) xs ys) (told (i + 1) xs ys))
+  | inr n ↦ rw (other_test x y n) (0, omega arith, (refl, λ z. n (some_same x y z)))
+]
+
+pub found : (xs ys : List ℕ) (o : Option ℕ) → o ≡ first_unequal_from 0 xs ys → Told 0 xs ys o
+found xs ys o e = subst (Told 0 xs ys) (sym e) (told 0 xs ys)
+
+pub found_at : (xs ys : List ℕ) (k : ℕ) → Some k ≡ first_unequal_from 0 xs ys → Differs xs ys (Some k)
+found_at xs ys k e = let t = found xs ys (Some k) e in let q : t.0 ≡ k = omega (arith, t.1) in subst (λ (j : ℕ). Differs xs ys (Some j)) q t.2

@@ -1,2 +1,2 @@
-pub mod Comparing
-pub mod Digits
+mod Comparing
+mod Digits

@@ -1,5 +1,5 @@
 -- Bytes as hexadecimal text. Assumes nothing.
-use Rattle.std.specs.Prelude.{◌≡◌, ℕ, ◌+◌, ◌-◌, ◌*◌, ◌/◌, ◌%◌, ◌<◌, cond, ◌&&◌, List, [], ◌∷◌, length, take, Some, None, Ok, Err, vec_items, Option, Result, Vec, ◌≢◌, nat_le, nat_lt, slice_index}
+use Rattle.std.specs.Prelude.{◌≡◌, ℕ, ◌+◌, ◌-◌, ◌*◌, ◌/◌, ◌%◌, ◌<◌, cond, ◌&&◌, List, [], ◌∷◌, length, take, All, IsSome, Some, None, Ok, Err, vec_items, Option, Result, Vec, ◌≢◌, nat_le, nat_lt, slice_index}
 use Rattle.std.specs.declared.alloc.Global.{Global}
 use Rattle.std.specs.List.{slice_get}
 use Rattle.hex_text.specs.declared.text.HexFault.{HexFault}
@@ -37,6 +37,12 @@ HexRead t (Ok v) = hex_bytes t ≡ Some (vec_items v)
 HexRead t (Err Odd) = (hex_bytes t ≡ None) × (length t % 2 ≡ 1)
 HexRead t (Err (Digit k)) = (hex_bytes t ≡ None) × (hex_value (slice_index t k) ≡ None) × (k < length t)
 HexRead t (Err Memory) = Unit {0}
+
+-- where a reading stops at a character, digits stand before it
+abbrev pub AfterDigits : List ℕ → HexFault → Type 0
+AfterDigits t (Digit k) = All (λ c. IsSome (hex_value c)) (take k t)
+AfterDigits t Odd = Unit {0}
+AfterDigits t Memory = Unit {0}
 
 -- where two lists differ first, if they do
 abbrev pub Differs : List ℕ → List ℕ → Option ℕ → Type 0

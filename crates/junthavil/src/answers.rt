@@ -1,15 +1,15 @@
-use super::command::{BoundName, Command, Measure};
-use super::lines::{bound_line, case_line, refused, row, times_lines, train_lines};
-use super::planning::{larger, message_lines, replay_lines};
-use bounds::{Larger, LongestPath, LookAhead};
+//! A session: the case that is open, and what its commands answer.
+use super::command::{Command, Measure, Question};
+use super::faults::Fault;
+use super::lines::{OrNone, Row, Timetable, Trains};
+use super::planning::{Desk, message_lines};
+use bounds::NamedBound;
 use graph::TimeMeasure;
 use hex_text::{first_difference, write_hex};
 use measures::{OrderedSeconds, Seconds};
-use runs::Request;
-use session::{ArmsFault, OpenCase, RailwayRefusal};
+use session::OpenCase;
 use std::alloc::{AllocError, Global};
 use std::fmt::Display;
-use trains::{Step, Train};
 
 /// The commands, in words.
 pub(crate) fn help() -> &'static str {
@@ -42,45 +42,54 @@ A blank line and one that begins with # ask for nothing.
 "
 }
 
-/// Trains, and the steps of all of them in one list.
+/// The case that is open, with its trains where it is a railway's.
 #[derive(Drop)]
-struct Trains {
-    trains: Vec<Train>,
-    steps: Vec<Step>,
+struct Opened {
+    case: OpenCase,
+    railway: Option<Trains>,
 }
 
-/// A session: the case that is open, if one is, with its trains where it is a railway's; and a railway that was begun.
+/// A session: the case that is open, if one is, and a railway that was begun.
 #[derive(Drop)]
 pub(crate) struct Session {
-    open: Option<OpenCase>,
-    trains: Option<Trains>,
+    heap: Global,
+    open: Option<Opened>,
     begun: Option<Trains>,
+}
+
+/// A planner to be opened over the case in a message.
+#[derive(Drop)]
+pub(crate) struct Opening {
+    pub(crate) message: Vec<u8>,
+    pub(crate) measure: Measure,
+    pub(crate) bound: NamedBound,
 }
 
 /// What a command leads to.
 #[derive(Drop)]
 pub(crate) enum Answer {
+    Nothing,
     /// These lines.
     Text(String),
     /// These lines, and another case is open now.
     Taken(String),
-    /// A planner is to be opened over the open case.
-    Opens(Measure, BoundName),
+    /// A planner is to be opened.
+    Opens(Opening),
 }
 
-/// The line for a command that wants an open case where there is none.
-fn no_case(heap: Global, number: u64) -> Result<String, AllocError> {
-    format!(in heap; "error line {number}: no case is open; take one by message or railway\n")
-}
-
-/// The line for a command that wants a planner where none is open.
-fn no_planner(heap: Global, number: u64) -> Result<String, AllocError> {
-    format!(in heap; "error line {number}: no planner is open; open one by open\n")
-}
-
-/// The line for a train, a step or an end where no railway was begun.
-fn no_railway(heap: Global, number: u64) -> Result<String, AllocError> {
-    format!(in heap; "error line {number}: no railway is begun; begin one by railway\n")
+/// The lines for least times, whose last is the delay, or for none.
+fn times_lines<V: Display + Drop>(
+    heap: Global,
+    times: Option<Vec<V>>,
+) -> Result<String, AllocError> {
+    let Some(times) = times else {
+        return String::from_str(heap, "times none\n");
+    };
+    let row = Row(Some(times.as_slice()));
+    match times.last() {
+        Some(delay) => format!(in heap; "times{row}\ndelay {delay}\n"),
+        None => format!(in heap; "times{row}\n"),
+    }
 }
 
 /// The lines for each bound of a case with its chosen arms.
@@ -88,253 +97,164 @@ fn bound_lines<V: TimeMeasure + Display + Drop>(
     heap: Global,
     case: &OpenCase,
 ) -> Result<String, AllocError> {
-    let mut text = bound_line(
-        heap,
-        "longest-path",
-        case.bound::<V, LongestPath>(heap, &LongestPath)?,
-    )?;
-    let ahead = bound_line(
-        heap,
-        "look-ahead",
-        case.bound::<V, LookAhead>(heap, &LookAhead)?,
-    )?;
-    text.push_str(ahead.as_str())?;
-    let both = bound_line(
-        heap,
-        "larger",
-        case.bound::<V, Larger<LongestPath, LookAhead>>(heap, &larger())?,
-    )?;
-    text.push_str(both.as_str())?;
-    Ok(text)
-}
-
-/// The lines for each train of a railway, by its times.
-fn all_trains(heap: Global, railway: &Trains, times: &[Seconds]) -> Result<String, AllocError> {
     let mut text = String::new(heap);
-    let mut first: usize = 1;
-    let mut at: usize = 0;
-    for (number, train) in railway.trains.iter().enumerate() {
-        let end = at.saturating_add(usize::from(train.steps));
-        let Some(steps) = railway.steps.as_slice().get(at..end) else {
-            return Ok(text);
-        };
-        text.push_str(train_lines(heap, number, *train, steps, times, first)?.as_str())?;
-        first = first.saturating_add(steps.len()).saturating_add(1);
-        at = end;
+    for bound in [
+        NamedBound::LongestPath,
+        NamedBound::LookAhead,
+        NamedBound::Larger,
+    ] {
+        let answer = OrNone(case.bound::<V, NamedBound>(heap, &bound)?);
+        text.push_str(format!(in heap; "bound {bound} {answer}\n")?.as_str())?;
     }
     Ok(text)
 }
 
 impl Session {
-    pub(crate) fn new() -> Session {
+    pub(crate) fn new(heap: Global) -> Session {
         Session {
+            heap,
             open: None,
-            trains: None,
             begun: None,
         }
     }
 
-    fn take(&mut self, heap: Global, bytes: Vec<u8>) -> Result<Answer, AllocError> {
-        match OpenCase::take(bytes) {
-            Ok(case) => {
-                let line = case_line(heap, case.size())?;
-                self.open = Some(case);
-                self.trains = None;
-                Ok(Answer::Taken(line))
-            }
-            Err(fault) => Ok(Answer::Text(refused(
-                heap,
-                fault.layer(),
-                fault.cause(),
-                fault.place(),
-                &fault,
-            )?)),
-        }
-    }
-
-    fn begin(&mut self, heap: Global) -> Result<String, AllocError> {
-        self.begun = Some(Trains {
-            trains: Vec::new(heap),
-            steps: Vec::new(heap),
-        });
-        Ok(String::new(heap))
-    }
-
-    fn add_train(&mut self, heap: Global, number: u64, train: Train) -> Result<String, AllocError> {
-        let Some(railway) = &mut self.begun else {
-            return no_railway(heap, number);
-        };
-        railway.trains.push(train)?;
-        Ok(String::new(heap))
-    }
-
-    fn add_step(&mut self, heap: Global, number: u64, step: Step) -> Result<String, AllocError> {
-        let Some(railway) = &mut self.begun else {
-            return no_railway(heap, number);
-        };
-        railway.steps.push(step)?;
-        Ok(String::new(heap))
-    }
-
-    fn end(&mut self, heap: Global, number: u64) -> Result<Answer, AllocError> {
-        let Some(railway) = self.begun.take() else {
-            return Ok(Answer::Text(no_railway(heap, number)?));
-        };
-        match OpenCase::of_railway(heap, railway.trains.as_slice(), railway.steps.as_slice()) {
-            Ok(case) => {
-                let line = case_line(heap, case.size())?;
-                self.open = Some(case);
-                self.trains = Some(railway);
-                Ok(Answer::Taken(line))
-            }
-            Err(RailwayRefusal::Railway(fault)) => Ok(Answer::Text(refused(
-                heap,
-                fault.layer(),
-                fault.cause(),
-                fault.place(),
-                &fault,
-            )?)),
-            Err(RailwayRefusal::Memory) => Err(AllocError),
-        }
-    }
-
-    fn open_planner(
-        &self,
-        heap: Global,
-        number: u64,
-        measure: Measure,
-        bound: BoundName,
-    ) -> Result<Answer, AllocError> {
+    fn case(&self) -> Result<&OpenCase, Fault> {
         match &self.open {
-            Some(_) => Ok(Answer::Opens(measure, bound)),
-            None => Ok(Answer::Text(no_case(heap, number)?)),
+            Some(opened) => Ok(&opened.case),
+            None => Err(Fault::NoCase),
         }
     }
 
-    /// The open case as a message, if there is one.
-    pub(crate) fn message(&self, heap: Global) -> Result<Option<Vec<u8>>, AllocError> {
-        match &self.open {
-            Some(case) => Ok(Some(case.write(heap)?)),
-            None => Ok(None),
+    /// Opens a case.
+    fn open(&mut self, case: OpenCase, railway: Option<Trains>) -> Result<Answer, Fault> {
+        let size = case.size();
+        let line = format!(in self.heap; "case {size}\n")?;
+        self.open = Some(Opened { case, railway });
+        Ok(Answer::Taken(line))
+    }
+
+    fn take(&mut self, message: Vec<u8>) -> Result<Answer, Fault> {
+        let case = OpenCase::take(message)?;
+        self.open(case, None)
+    }
+
+    /// The railway that was begun.
+    fn begun(&mut self) -> Result<&mut Trains, Fault> {
+        match &mut self.begun {
+            Some(railway) => Ok(railway),
+            None => Err(Fault::NoRailway),
         }
     }
 
-    fn replay(
-        &self,
-        heap: Global,
-        number: u64,
-        measure: Measure,
-        bound: BoundName,
-        requests: &[Request],
-    ) -> Result<String, AllocError> {
-        match self.message(heap)? {
-            Some(bytes) => replay_lines(heap, bytes.as_slice(), measure, bound, requests),
-            None => no_case(heap, number),
-        }
+    fn end(&mut self) -> Result<Answer, Fault> {
+        let railway = self.begun.take().ok_or(Fault::NoRailway)?;
+        let case = OpenCase::of_railway(
+            self.heap,
+            railway.trains.as_slice(),
+            railway.steps.as_slice(),
+        )?;
+        self.open(case, Some(railway))
     }
 
-    fn choose(&mut self, heap: Global, number: u64, arms: &[u8]) -> Result<String, AllocError> {
-        let Some(case) = &mut self.open else {
-            return no_case(heap, number);
+    fn planner(&self, measure: Measure, bound: NamedBound) -> Result<Answer, Fault> {
+        let message = self.case()?.write(self.heap)?;
+        Ok(Answer::Opens(Opening {
+            message,
+            measure,
+            bound,
+        }))
+    }
+
+    fn choose(&mut self, arms: &[u8]) -> Result<String, Fault> {
+        let Some(opened) = &mut self.open else {
+            return Err(Fault::NoCase);
         };
-        match case.choose(arms) {
-            Ok(()) => row(heap, "arms", case.arms()),
-            Err(ArmsFault::TooMany) => {
-                let pairs = case.size().pairs;
-                format!(in heap; "error line {number}: the case has {pairs} pairs\n")
+        opened.case.choose(arms)?;
+        let row = Row(Some(opened.case.arms()));
+        Ok(format!(in self.heap; "arms{row}\n")?)
+    }
+
+    /// What is asked of the open case in this measure.
+    fn told<V: TimeMeasure + Display + Drop>(&self, question: Question) -> Result<String, Fault> {
+        let case = self.case()?;
+        let text = match question {
+            Question::Times => times_lines(self.heap, case.times::<V>(self.heap)?),
+            Question::Bounds => bound_lines::<V>(self.heap, case),
+            Question::Replay(bound, calls) => {
+                let message = case.write(self.heap)?;
+                let desk = Desk::<V>::replayed(
+                    self.heap,
+                    message.as_slice(),
+                    bound,
+                    calls.as_slice(),
+                )?;
+                format!(in self.heap; "{desk}")
             }
-            Err(ArmsFault::Arm(at)) => {
-                format!(in heap; "error line {number}: arm {at} is not 0, 1 or 2\n")
-            }
-        }
+        };
+        Ok(text?)
     }
 
-    fn times(&self, heap: Global, number: u64, measure: Measure) -> Result<String, AllocError> {
-        let Some(case) = &self.open else {
-            return no_case(heap, number);
+    fn by_train(&self) -> Result<String, Fault> {
+        let Some(opened) = &self.open else {
+            return Err(Fault::NoCase);
         };
-        match measure {
-            Measure::Seconds => times_lines(heap, case.times::<Seconds>(heap)?),
-            Measure::Ordered => times_lines(heap, case.times::<OrderedSeconds>(heap)?),
-        }
+        let Some(railway) = &opened.railway else {
+            return Err(Fault::NotARailway);
+        };
+        let Some(times) = opened.case.times::<Seconds>(self.heap)? else {
+            return Ok(String::from_str(self.heap, "times none\n")?);
+        };
+        let table = Timetable {
+            railway,
+            times: times.as_slice(),
+        };
+        Ok(format!(in self.heap; "{table}")?)
     }
 
-    fn bounds(&self, heap: Global, number: u64, measure: Measure) -> Result<String, AllocError> {
-        let Some(case) = &self.open else {
-            return no_case(heap, number);
-        };
-        match measure {
-            Measure::Seconds => bound_lines::<Seconds>(heap, case),
-            Measure::Ordered => bound_lines::<OrderedSeconds>(heap, case),
-        }
+    fn write(&self) -> Result<String, Fault> {
+        let message = self.case()?.write(self.heap)?;
+        let hex = write_hex(self.heap, message.as_slice())?;
+        Ok(format!(in self.heap; "message {hex}\n")?)
     }
 
-    fn by_train(&self, heap: Global, number: u64) -> Result<String, AllocError> {
-        let Some(case) = &self.open else {
-            return no_case(heap, number);
-        };
-        let Some(railway) = &self.trains else {
-            return format!(in heap; "error line {number}: the open case is no railway\n");
-        };
-        match case.times::<Seconds>(heap)? {
-            Some(times) => all_trains(heap, railway, times.as_slice()),
-            None => String::from_str(heap, "times none\n"),
-        }
-    }
-
-    fn write(&self, heap: Global, number: u64) -> Result<String, AllocError> {
-        let Some(case) = &self.open else {
-            return no_case(heap, number);
-        };
-        let message = case.write(heap)?;
-        let hex = write_hex(heap, message.as_slice())?;
-        format!(in heap; "message {hex}\n")
-    }
-
-    fn compare(&self, heap: Global, number: u64, bytes: &[u8]) -> Result<String, AllocError> {
-        let Some(case) = &self.open else {
-            return no_case(heap, number);
-        };
-        let message = case.write(heap)?;
+    fn compare(&self, bytes: &[u8]) -> Result<String, Fault> {
+        let message = self.case()?.write(self.heap)?;
         match first_difference(message.as_slice(), bytes) {
-            None => String::from_str(heap, "same\n"),
-            Some(at) => format!(in heap; "differs at byte {at}\n"),
+            None => Ok(String::from_str(self.heap, "same\n")?),
+            Some(at) => Ok(format!(in self.heap; "differs at byte {at}\n")?),
         }
     }
 
-    /// The lines that answer a command which takes no case and opens no planner.
-    fn told(&mut self, heap: Global, number: u64, command: Command) -> Result<String, AllocError> {
-        match command {
-            Command::Railway => self.begin(heap),
-            Command::Train(train) => self.add_train(heap, number, train),
-            Command::Step(step) => self.add_step(heap, number, step),
-            Command::Arms(arms) => self.choose(heap, number, arms.as_slice()),
-            Command::Times(measure) => self.times(heap, number, measure),
-            Command::Bounds(measure) => self.bounds(heap, number, measure),
-            Command::Trains => self.by_train(heap, number),
-            Command::Write => self.write(heap, number),
-            Command::Compare(bytes) => self.compare(heap, number, bytes.as_slice()),
-            Command::PlanMessage(budget, bytes) => message_lines(heap, budget, bytes.as_slice()),
-            Command::Replay(measure, bound, requests) => {
-                self.replay(heap, number, measure, bound, requests.as_slice())
+    /// What a command leads to where no planner answers it.
+    pub(crate) fn answer(&mut self, command: Command) -> Result<Answer, Fault> {
+        let text = match command {
+            Command::Message(bytes) => return self.take(bytes),
+            Command::End => return self.end(),
+            Command::Open(measure, bound) => return self.planner(measure, bound),
+            Command::Railway => {
+                self.begun = Some(Trains::new(self.heap));
+                return Ok(Answer::Nothing);
             }
-            Command::Help => String::from_str(heap, help()),
-            _ => no_planner(heap, number),
-        }
-    }
-
-    /// What a command leads to where no planner answers it; the number of its line is for the errors.
-    pub(crate) fn answer(
-        &mut self,
-        heap: Global,
-        number: u64,
-        command: Command,
-    ) -> Result<Answer, AllocError> {
-        match command {
-            Command::Message(bytes) => self.take(heap, bytes),
-            Command::End => self.end(heap, number),
-            Command::Open(measure, bound) => self.open_planner(heap, number, measure, bound),
-            other => Ok(Answer::Text(self.told(heap, number, other)?)),
-        }
+            Command::Train(train) => {
+                self.begun()?.trains.push(train)?;
+                return Ok(Answer::Nothing);
+            }
+            Command::Step(step) => {
+                self.begun()?.steps.push(step)?;
+                return Ok(Answer::Nothing);
+            }
+            Command::Arms(arms) => self.choose(arms.as_slice()),
+            Command::In(Measure::Seconds, question) => self.told::<Seconds>(question),
+            Command::In(Measure::Ordered, question) => self.told::<OrderedSeconds>(question),
+            Command::Trains => self.by_train(),
+            Command::Write => self.write(),
+            Command::Compare(bytes) => self.compare(bytes.as_slice()),
+            Command::PlanMessage(budget, bytes) => {
+                message_lines(self.heap, budget, bytes.as_slice())
+            }
+            Command::Help => Ok(String::from_str(self.heap, help())?),
+            Command::Planner(_) => Err(Fault::NoPlanner),
+        };
+        Ok(Answer::Text(text?))
     }
 }

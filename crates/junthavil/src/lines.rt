@@ -1,124 +1,130 @@
+//! What is printed, in the words of the answers.
 use measures::Seconds;
-use session::CaseSize;
-use std::alloc::{AllocError, Global};
+use std::alloc::Global;
+use std::fmt;
 use std::fmt::Display;
-use trains::{Kind, Step, Train};
+use trains::{Step, Train};
 
-/// A word and then the items, with a space before each.
-pub(crate) fn row<T: Display>(heap: Global, word: &str, items: &[T]) -> Result<String, AllocError> {
-    let mut text = String::from_str(heap, word)?;
-    for item in items {
-        text.push_str(format!(in heap; " {item}")?.as_str())?;
-    }
-    text.push('\n')?;
-    Ok(text)
-}
+/// A value, or that there is none.
+#[derive(Drop)]
+pub(crate) struct OrNone<T>(pub(crate) Option<T>);
 
-/// The line for a refusal.
-pub(crate) fn refused<F: Display>(
-    heap: Global,
-    layer: u8,
-    cause: u8,
-    place: usize,
-    words: &F,
-) -> Result<String, AllocError> {
-    format!(in heap; "refused layer {layer} cause {cause} place {place}: {words}\n")
-}
-
-/// The lines for least times, whose last is the delay, or for none.
-pub(crate) fn times_lines<V: Display + Drop>(
-    heap: Global,
-    times: Option<Vec<V>>,
-) -> Result<String, AllocError> {
-    let Some(times) = times else {
-        return String::from_str(heap, "times none\n");
-    };
-    let mut text = row(heap, "times", times.as_slice())?;
-    if let Some(delay) = times.last() {
-        text.push_str(format!(in heap; "delay {delay}\n")?.as_str())?;
-    }
-    Ok(text)
-}
-
-/// The line for a bound: its rank, or none.
-pub(crate) fn bound_line<V: Display + Drop>(
-    heap: Global,
-    name: &str,
-    answer: Option<V>,
-) -> Result<String, AllocError> {
-    match answer {
-        Some(value) => format!(in heap; "bound {name} {value}\n"),
-        None => format!(in heap; "bound {name} none\n"),
+impl<T: Display> Display for OrNone<T> {
+    fn fmt<W: fmt::Write>(&self, f: &mut fmt::Formatter<W>) -> fmt::Result {
+        match &self.0 {
+            Some(value) => value.fmt(f),
+            None => write!(f, "none"),
+        }
     }
 }
 
-/// The line for a case that is taken.
-pub(crate) fn case_line(heap: Global, size: CaseSize) -> Result<String, AllocError> {
-    let end = size.end;
-    let fixed = size.fixed;
-    let pairs = size.pairs;
-    format!(in heap; "case events {end} fixed {fixed} pairs {pairs}\n")
-}
+/// The items of a row with a space before each, or that there is none.
+#[derive(Drop)]
+pub(crate) struct Row<'a, T>(pub(crate) Option<&'a [T]>);
 
-/// The name of a kind, in words.
-fn kind_name(kind: Kind) -> &'static str {
-    match kind {
-        Kind::LoadedOre => "loaded ore",
-        Kind::EmptyOre => "empty ore",
-        Kind::HotMetal => "hot metal",
-        Kind::Staff => "staff",
-        Kind::LightEngine => "light engine",
+impl<T: Display> Display for Row<'_, T> {
+    fn fmt<W: fmt::Write>(&self, f: &mut fmt::Formatter<W>) -> fmt::Result {
+        let Some(items) = self.0 else {
+            return write!(f, " none");
+        };
+        for item in items {
+            write!(f, " {item}")?;
+        }
+        Ok(())
     }
 }
 
-/// The second at an event.
-fn second_at(times: &[Seconds], event: usize) -> i64 {
-    match times.get(event) {
-        Some(time) => time.value(),
-        None => 0,
-    }
-}
-
-/// The lines for the steps of a train, whose first event is given, and the seconds that they take at least.
-fn step_lines(
-    heap: Global,
-    text: &mut String,
-    steps: &[Step],
-    times: &[Seconds],
-    first: usize,
-) -> Result<u32, AllocError> {
-    let mut running: u32 = 0;
-    for (number, step) in steps.iter().enumerate() {
-        let section = step.section;
-        let event = first.saturating_add(number);
-        let from = second_at(times, event);
-        let to = second_at(times, event.saturating_add(1));
-        text.push_str(format!(in heap; "  section {section} from {from} to {to}\n")?.as_str())?;
-        running = running.saturating_add(u32::from(step.running));
-    }
-    Ok(running)
-}
-
-/// How far an exit lies behind the larger of the due time and the unhindered exit.
-fn delay_of(exit: i64, due: u32, unhindered: u32) -> i64 {
-    exit.saturating_sub(i64::from(due.max(unhindered))).max(0)
-}
-
-/// The lines for a train by its steps, in seconds, and its exit with its own delay.
-pub(crate) fn train_lines(
-    heap: Global,
-    number: usize,
+/// A train with its steps and the times of their events, the last of which is its exit.
+#[derive(Clone, Copy)]
+struct Run<'a> {
     train: Train,
-    steps: &[Step],
-    times: &[Seconds],
-    first: usize,
-) -> Result<String, AllocError> {
-    let name = kind_name(train.kind);
-    let mut text = format!(in heap; "train {number} {name}\n")?;
-    let running = step_lines(heap, &mut text, steps, times, first)?;
-    let exit = second_at(times, first.saturating_add(steps.len()));
-    let due = train.due;
-    let delay = delay_of(exit, due, train.entry.saturating_add(running));
-    text.push_str(format!(in heap; "  leaves at {exit}, due {due}, delay {delay}\n")?.as_str())?;
-    Ok(text)
+    steps: &'a [Step],
+    times: &'a [Seconds],
+}
+
+impl Run<'_> {
+    /// The second at which the train leaves.
+    fn exit(&self) -> i64 {
+        self.times.last().map_or(0, |time| time.value())
+    }
+
+    /// The second at which the train would leave unhindered.
+    fn unhindered(&self) -> u32 {
+        self.steps.iter().fold(self.train.entry, |second, step| {
+            second.saturating_add(u32::from(step.running))
+        })
+    }
+
+    /// How far the exit lies behind the larger of the due time and the unhindered exit.
+    fn delay(&self) -> i64 {
+        let wanted = self.train.due.max(self.unhindered());
+        self.exit().saturating_sub(i64::from(wanted)).max(0)
+    }
+}
+
+impl Display for Run<'_> {
+    fn fmt<W: fmt::Write>(&self, f: &mut fmt::Formatter<W>) -> fmt::Result {
+        let kind = self.train.kind;
+        writeln!(f, " {kind}")?;
+        let spans = self.times.iter().zip(self.times.iter().skip(1));
+        for (step, (from, to)) in self.steps.iter().zip(spans) {
+            let section = step.section;
+            writeln!(f, "  section {section} from {from} to {to}")?;
+        }
+        let exit = self.exit();
+        let due = self.train.due;
+        let delay = self.delay();
+        writeln!(f, "  leaves at {exit}, due {due}, delay {delay}")
+    }
+}
+
+/// Trains, and the steps of all of them in one list.
+#[derive(Drop)]
+pub(crate) struct Trains {
+    pub(crate) trains: Vec<Train>,
+    pub(crate) steps: Vec<Step>,
+}
+
+impl Trains {
+    /// No trains.
+    pub(crate) fn new(heap: Global) -> Trains {
+        Trains {
+            trains: Vec::new(heap),
+            steps: Vec::new(heap),
+        }
+    }
+}
+
+/// The trains of a railway with the times of its events: the start, and then each train's.
+#[derive(Clone, Copy)]
+pub(crate) struct Timetable<'a> {
+    pub(crate) railway: &'a Trains,
+    pub(crate) times: &'a [Seconds],
+}
+
+impl Display for Timetable<'_> {
+    fn fmt<W: fmt::Write>(&self, f: &mut fmt::Formatter<W>) -> fmt::Result {
+        let mut steps = self.railway.steps.as_slice();
+        let Some((_start, mut times)) = self.times.split_first() else {
+            return Ok(());
+        };
+        for (number, train) in self.railway.trains.iter().enumerate() {
+            let count = usize::from(train.steps);
+            let Some((own_steps, later_steps)) = steps.split_at_checked(count) else {
+                break;
+            };
+            let Some((own_times, later_times)) = times.split_at_checked(count + 1) else {
+                break;
+            };
+            let run = Run {
+                train: *train,
+                steps: own_steps,
+                times: own_times,
+            };
+            write!(f, "train {number}{run}")?;
+            steps = later_steps;
+            times = later_times;
+        }
+        Ok(())
+    }
 }

@@ -4,6 +4,7 @@
 
 mod answers;
 mod command;
+mod faults;
 mod lines;
 mod planning;
 mod turns;

@@ -1,176 +1,120 @@
 //! Lines in, answers out: with a planner open, or with none.
-use super::answers::{Answer, Session};
-use super::command::{BoundName, Command, Measure, read};
-use super::planning::{Desk, larger};
-use bounds::{Bound, Larger, LongestPath, LookAhead};
+use super::answers::{Answer, Opening, Session};
+use super::command::{Command, Measure};
+use super::faults::Fault;
+use super::planning::{Desk, NoPlanner, Planning};
+use bounds::NamedBound;
 use graph::TimeMeasure;
 use measures::{OrderedSeconds, Seconds};
-use sources::Message;
 use std::fmt::Display;
-use std::io::BufRead;
-
-/// The lines of the input, counted from 1.
-#[derive(Drop)]
-struct Input<R> {
-    reader: R,
-    number: u64,
-}
+use std::io::{BufRead, Lines};
 
 /// Why a round of lines is over.
-#[derive(Clone, Copy)]
+#[derive(Drop)]
 enum After {
     /// The input has ended.
     End,
     /// Another case was taken.
     Case,
     /// A planner is to be opened.
-    Open(Measure, BoundName),
+    Open(Opening),
 }
 
-impl<R: BufRead> Input<R> {
-    /// The next line's command, or none at the end. A line that is no command is answered here, a blank one and a comment
-    /// are passed over.
-    fn next(&mut self, rt: &HostRuntime) -> anyhow::Result<Option<Command>> {
-        let heap = rt.alloc();
-        for _line in 0..u64::MAX {
-            let mut line = String::new(heap);
-            if self.reader.read_line(&mut line)? == 0 {
-                break;
-            }
-            self.number = self.number.saturating_add(1);
-            match read(heap, line.as_str()) {
-                Ok(Some(command)) => return Ok(Some(command)),
-                Ok(None) => {}
-                Err(misread) => {
-                    let number = self.number;
-                    println!(rt; "error line {number}: {misread}")?;
-                }
-            }
-        }
-        Ok(None)
-    }
-}
-
-/// Has the session answer a command; says why the round is over, if it is.
-fn answer(
-    rt: &HostRuntime,
-    session: &mut Session,
+/// A session that answers lines, which are counted from 1.
+#[derive(Drop)]
+struct Talk<'a, R> {
+    rt: &'a HostRuntime,
+    lines: Lines<R>,
     number: u64,
-    command: Command,
+    session: Session,
+}
+
+/// What a line leads to; a blank one and a comment ask for nothing.
+fn answer<P: Planning>(
+    rt: &HostRuntime,
+    session: &mut Session,
+    planner: &mut P,
+    line: &str,
+) -> Result<Answer, Fault> {
+    match Command::parse(rt.alloc(), line)? {
+        None => Ok(Answer::Nothing),
+        Some(Command::Planner(asked)) => Ok(Answer::Text(planner.answer(rt, asked)?)),
+        Some(command) => session.answer(command),
+    }
+}
+
+/// Prints what the line of this number leads to; says why the round is over, if it is.
+fn tell(
+    rt: &HostRuntime,
+    number: u64,
+    answer: Result<Answer, Fault>,
 ) -> anyhow::Result<Option<After>> {
-    match session.answer(rt.alloc(), number, command)? {
-        Answer::Text(text) => {
+    match answer {
+        Ok(Answer::Nothing) => {}
+        Ok(Answer::Text(text)) => rt.print(text)?,
+        Ok(Answer::Taken(text)) => {
             rt.print(text)?;
-            Ok(None)
+            return Ok(Some(After::Case));
         }
-        Answer::Taken(text) => {
-            rt.print(text)?;
-            Ok(Some(After::Case))
-        }
-        Answer::Opens(measure, bound) => Ok(Some(After::Open(measure, bound))),
+        Ok(Answer::Opens(opening)) => return Ok(Some(After::Open(opening))),
+        Err(Fault::Memory) => return Err(Fault::Memory.into()),
+        Err(Fault::Refused(refused)) => println!(rt; "{refused}")?,
+        Err(fault) => println!(rt; "error line {number}: {fault}")?,
     }
+    Ok(None)
 }
 
-/// Answers lines with no planner open.
-fn without_planner<R: BufRead>(
-    rt: &HostRuntime,
-    input: &mut Input<R>,
-    session: &mut Session,
-) -> anyhow::Result<After> {
-    for _turn in 0..u64::MAX {
-        let Some(command) = input.next(rt)? else {
-            break;
-        };
-        if let Some(after) = answer(rt, session, input.number, command)? {
-            return Ok(after);
-        }
-    }
-    Ok(After::End)
-}
-
-/// Answers lines with a planner open over the case in these bytes, until another case is taken or a planner opened again.
-fn with_planner<R: BufRead, V: TimeMeasure + Display, B: Bound>(
-    rt: &HostRuntime,
-    input: &mut Input<R>,
-    session: &mut Session,
-    bytes: &[u8],
-    bound: B,
-) -> anyhow::Result<After> {
-    let heap = rt.alloc();
-    let mut desk = Desk::<Message, V, B>::open(heap, Message::over(bytes), bound)?;
-    rt.print("open\n")?;
-    for _turn in 0..u64::MAX {
-        let Some(command) = input.next(rt)? else {
-            break;
-        };
-        match command {
-            Command::Hold(pair, arm) => rt.print(desk.hold(heap, pair, arm)?)?,
-            Command::Release(pair) => rt.print(desk.release(heap, pair)?)?,
-            Command::Search(budget, places) => rt.print(desk.search(rt, budget, places)?)?,
-            Command::Show => rt.print(desk.show(heap)?)?,
-            other => {
-                if let Some(after) = answer(rt, session, input.number, other)? {
-                    return Ok(after);
-                }
+impl<R: BufRead + Drop> Talk<'_, R> {
+    /// Answers lines with this planner, or with none, until another case is taken or a planner opened.
+    fn answer_lines<P: Planning>(&mut self, planner: &mut P) -> anyhow::Result<After> {
+        for line in self.lines.by_ref() {
+            let line = line?;
+            self.number = self.number.saturating_add(1);
+            let answer = answer(self.rt, &mut self.session, planner, line.as_str());
+            if let Some(after) = tell(self.rt, self.number, answer)? {
+                return Ok(after);
             }
         }
+        Ok(After::End)
     }
-    Ok(After::End)
-}
 
-/// The same in a measure, by the bound of this name.
-fn with_bound<R: BufRead, V: TimeMeasure + Display>(
-    rt: &HostRuntime,
-    input: &mut Input<R>,
-    session: &mut Session,
-    bytes: &[u8],
-    bound: BoundName,
-) -> anyhow::Result<After> {
-    match bound {
-        BoundName::LongestPath => {
-            with_planner::<R, V, LongestPath>(rt, input, session, bytes, LongestPath)
-        }
-        BoundName::LookAhead => {
-            with_planner::<R, V, LookAhead>(rt, input, session, bytes, LookAhead)
-        }
-        BoundName::Larger => with_planner::<R, V, Larger<LongestPath, LookAhead>>(
-            rt,
-            input,
-            session,
-            bytes,
-            larger(),
-        ),
+    /// Answers lines with a planner open over the case in a message.
+    fn with_planner<V: TimeMeasure + Display>(
+        &mut self,
+        message: &[u8],
+        bound: NamedBound,
+    ) -> anyhow::Result<After> {
+        let mut desk = Desk::<V>::open(self.rt.alloc(), message, bound)?;
+        self.rt.print("open\n")?;
+        self.answer_lines(&mut desk)
     }
-}
 
-/// Opens a planner over the open case, and answers lines with it.
-fn opened<R: BufRead>(
-    rt: &HostRuntime,
-    input: &mut Input<R>,
-    session: &mut Session,
-    measure: Measure,
-    bound: BoundName,
-) -> anyhow::Result<After> {
-    let Some(message) = session.message(rt.alloc())? else {
-        return Ok(After::Case);
-    };
-    let bytes = message.as_slice();
-    match measure {
-        Measure::Seconds => with_bound::<R, Seconds>(rt, input, session, bytes, bound),
-        Measure::Ordered => with_bound::<R, OrderedSeconds>(rt, input, session, bytes, bound),
+    /// Opens a planner, and answers lines with it.
+    fn opened(&mut self, opening: &Opening) -> anyhow::Result<After> {
+        let message = opening.message.as_slice();
+        let bound = opening.bound;
+        match opening.measure {
+            Measure::Seconds => self.with_planner::<Seconds>(message, bound),
+            Measure::Ordered => self.with_planner::<OrderedSeconds>(message, bound),
+        }
     }
 }
 
 /// Answers the lines one after the other.
 pub(crate) fn answer_all<R: BufRead + Drop>(rt: &HostRuntime, reader: R) -> anyhow::Result<()> {
-    let mut input = Input { reader, number: 0 };
-    let mut session = Session::new();
+    let mut talk = Talk {
+        rt,
+        lines: reader.lines(rt.alloc()),
+        number: 0,
+        session: Session::new(rt.alloc()),
+    };
     let mut after = After::Case;
+    // Kept: each round takes a line of the input, and no clause knows how many are left.
     for _round in 0..u64::MAX {
         after = match after {
             After::End => break,
-            After::Case => without_planner(rt, &mut input, &mut session)?,
-            After::Open(measure, bound) => opened(rt, &mut input, &mut session, measure, bound)?,
+            After::Case => talk.answer_lines(&mut NoPlanner)?,
+            After::Open(opening) => talk.opened(&opening)?,
         };
     }
     Ok(())

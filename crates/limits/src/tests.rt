@@ -1,4 +1,4 @@
-use graph::{Arc, Pair, TimeMeasure, least_times};
+use graph::{Arc, CaseSource, Pair, Refusal, TimeMeasure, least_times};
 use measures::Seconds;
 use messages::{CaseFault, MessageFault};
 use sources::{Listed, Message, check_listed, check_message, write_message};
@@ -16,43 +16,27 @@ fn arc(from: u16, to: u16, weight: i32, mark: u8) -> Arc {
 }
 
 /// Layer, cause and place of a fault, or zeros where there is none.
-fn of_case(told: Result<(), CaseFault>) -> (u8, u8, usize) {
+fn numbers<F: Refusal>(told: Result<(), F>) -> (u8, u8, usize) {
     match told {
         Ok(()) => (0, 0, 0),
         Err(fault) => (fault.layer(), fault.cause(), fault.place()),
     }
 }
 
-/// Layer, cause and place of a fault, or zeros where there is none.
-fn of_message(told: Result<(), MessageFault>) -> (u8, u8, usize) {
-    match told {
-        Ok(()) => (0, 0, 0),
-        Err(fault) => (fault.layer(), fault.cause(), fault.place()),
-    }
-}
-
-/// The least times of a listed case in seconds, with an arm of its first pair, in a row of six; -1 where there are none.
-fn times<'a>(end: usize, fixed: &'a [Arc], pairs: &'a [Pair], arm: u8) -> [i64; 6] {
+/// The least times of a listed case in seconds, with an arm of its first pair, in a row of six, or none; refused, how many
+/// places are needed.
+fn times<'a>(
+    end: usize,
+    fixed: &'a [Arc],
+    pairs: &'a [Pair],
+    arm: u8,
+) -> Result<Option<[i64; 6]>, usize> {
     let mut arms = [0; 60];
     arms[0] = arm;
     let mut times = [Seconds::zero(); 6];
     match least_times(&Listed::over(end, fixed, pairs), &arms, &mut times) {
-        Ok(found) => {
-            let [a, b, c, d, e, f] = times;
-            if found {
-                [
-                    a.value(),
-                    b.value(),
-                    c.value(),
-                    d.value(),
-                    e.value(),
-                    f.value(),
-                ]
-            } else {
-                [-1; 6]
-            }
-        }
-        Err(_) => [-2; 6],
+        Ok(found) => Ok(found.then_some(times.map(Seconds::value))),
+        Err(few) => Err(few.needed),
     }
 }
 
@@ -70,14 +54,20 @@ fn worked_examples(rt: HostRuntime) {
         first: arc(2, 3, 20, 0),
         second: arc(4, 1, 20, 0),
     }];
-    assert_eq!(rt; times(5, &fixed, &pairs, 1), [0, 0, 100, 120, 180, 90]);
-    assert_eq!(rt; times(5, &fixed, &pairs, 2), [0, 110, 210, 30, 90, 110]);
+    assert_eq!(rt;
+        times(5, &fixed, &pairs, 1),
+        Ok(Some([0, 0, 100, 120, 180, 90]))
+    );
+    assert_eq!(rt;
+        times(5, &fixed, &pairs, 2),
+        Ok(Some([0, 110, 210, 30, 90, 110]))
+    );
     assert_eq!(rt; times(5, &fixed, &pairs, 3), times(5, &fixed, &pairs, 0));
     let rising = [arc(1, 2, 10, 0), arc(2, 1, -5, 0)];
-    assert_eq!(rt; times(2, &rising, &[], 0), [-1; 6]);
+    assert_eq!(rt; times(2, &rising, &[], 0), Ok(None));
     let level = [arc(1, 2, 10, 0), arc(2, 1, -10, 0)];
-    assert_eq!(rt; times(2, &level, &[], 0), [0, 0, 10, 0, 0, 0]);
-    assert_eq!(rt; times(6, &level, &[], 0), [-2; 6]);
+    assert_eq!(rt; times(2, &level, &[], 0), Ok(Some([0, 0, 10, 0, 0, 0])));
+    assert_eq!(rt; times(6, &level, &[], 0), Err(7));
 }
 
 #[test]
@@ -102,11 +92,11 @@ fn limits_of_arcs(rt: HostRuntime) {
             second: wrong,
         }];
         assert_eq!(rt;
-            of_case(check_listed(2, &[good, wrong], &[])),
+            numbers(check_listed(2, &[good, wrong], &[])),
             (layer, cause, place)
         );
         assert_eq!(rt;
-            of_case(check_listed(2, &[], &second)),
+            numbers(check_listed(2, &[], &second)),
             (layer, cause, place)
         );
     }
@@ -119,15 +109,15 @@ fn limits_of_sizes(rt: HostRuntime) {
         first: arc(0, 1, 0, 0),
         second: arc(1, 0, 0, 0),
     }; 61];
-    assert_eq!(rt; of_case(check_listed(0, &[], &[])), (2, 3, 0));
-    assert_eq!(rt; of_case(check_listed(512, &arcs, &pairs)), (2, 3, 0));
-    assert_eq!(rt; of_case(check_listed(511, &arcs, &pairs)), (2, 3, 1));
+    assert_eq!(rt; numbers(check_listed(0, &[], &[])), (2, 3, 0));
+    assert_eq!(rt; numbers(check_listed(512, &arcs, &pairs)), (2, 3, 0));
+    assert_eq!(rt; numbers(check_listed(511, &arcs, &pairs)), (2, 3, 1));
     assert_eq!(rt;
-        of_case(check_listed(511, &arcs[0..2048], &pairs)),
+        numbers(check_listed(511, &arcs[0..2048], &pairs)),
         (2, 3, 2)
     );
     assert_eq!(rt;
-        of_case(check_listed(1, &arcs[0..2048], &pairs[0..60])),
+        numbers(check_listed(1, &arcs[0..2048], &pairs[0..60])),
         (0, 0, 0)
     );
 }
@@ -148,13 +138,41 @@ fn limits_of_messages(rt: HostRuntime) {
         ([0, 0, 0, 6, 1, 0, 1, 0, 1, 0], (1, 4, 0)),
     ];
     for (bytes, told) in table {
-        assert_eq!(rt; of_message(check_message(&bytes)), told);
+        assert_eq!(rt; numbers(check_message(&bytes)), told);
     }
-    assert_eq!(rt; of_message(check_message(&EMPTY[0..9])), (1, 1, 9));
+    assert_eq!(rt; numbers(check_message(&EMPTY[0..9])), (1, 1, 9));
     assert_eq!(rt;
-        of_message(check_message(&[0, 0, 0, 6, 1, 0, 1, 0, 0, 0, 0])),
+        numbers(check_message(&[0, 0, 0, 6, 1, 0, 1, 0, 0, 0, 0])),
         (1, 4, 0)
     );
+}
+
+#[test]
+fn sources_that_are_read(rt: HostRuntime) {
+    let arcs = [arc(0, 3, 5, 1), arc(3, 1, -5, 0)];
+    let pairs = [Pair {
+        first: arcs[0],
+        second: arcs[1],
+    }];
+    let bytes = [
+        0, 0, 0, 33, 1, 0, 3, 0, 1, 1, 0, 0, 0, 3, 0, 0, 0, 5, 1, 0, 0, 0, 3, 0, 0, 0, 5, 1, 0, 3,
+        0, 1, 255, 255, 255, 251, 0,
+    ];
+    let listed = Listed::read(3, &arcs[0..1], &pairs).expect(&rt, "within the limits");
+    let message = Message::read(&bytes).expect(&rt, "accepted");
+    for at in 0..2 {
+        assert_eq!(rt; listed.fixed_arc(at), message.fixed_arc(at));
+    }
+    for arm in 0..4 {
+        assert_eq!(rt; listed.arm(0, arm), message.arm(0, arm));
+    }
+    assert_eq!(rt; message.arm(0, 2), Some(arcs[1]));
+    assert_eq!(rt; message.arm(1, 1), None);
+    let refused = Listed::read(2, &arcs, &[]).map(|source| source.end());
+    assert_eq!(rt; refused, Err(CaseFault::UnknownEvent(0)));
+    let refused = Message::read(&bytes[0..36]).map(|source| source.end());
+    assert_eq!(rt; refused, Err(MessageFault::Length));
+    assert_eq!(rt; Message::over(&bytes[0..36]).end(), 1);
 }
 
 #[test]

@@ -8,7 +8,7 @@ use std::fmt;
 
 /// Times in whole seconds, and within a second by a place 0 to 1,023, so that strictly later can be told at equal
 /// seconds. One number is kept, 1,024 × second + place, and an arc's rank is 1,024 × weight + mark.
-#[derive(Clone, Copy, Debug, PartialEq, Eq)]
+#[derive(Clone, Copy, Debug, PartialEq, Eq, PartialOrd, Ord)]
 pub struct OrderedSeconds {
     rank: i64,
 }
@@ -55,7 +55,7 @@ impl TimeMeasure for OrderedSeconds {
     }
 
     fn is_below(self, other: OrderedSeconds) -> bool {
-        self.rank < other.rank
+        self < other
     }
 }
 

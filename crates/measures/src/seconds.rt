@@ -6,7 +6,7 @@ use graph::TimeMeasure;
 use std::fmt;
 
 /// Times in whole seconds: an arc's rank is its weight, and its mark counts for nothing.
-#[derive(Clone, Copy, Debug, PartialEq, Eq)]
+#[derive(Clone, Copy, Debug, PartialEq, Eq, PartialOrd, Ord)]
 pub struct Seconds {
     value: i64,
 }
@@ -45,7 +45,7 @@ impl TimeMeasure for Seconds {
     }
 
     fn is_below(self, other: Seconds) -> bool {
-        self.value < other.value
+        self < other
     }
 }
 

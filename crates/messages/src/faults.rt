@@ -2,35 +2,41 @@ ghost use Rattle.std.specs.Prelude.{◌≡◌};
 ghost use Rattle.messages.specs.Named.{of_case, of_message};
 ghost use Rattle.messages.specs.declared.faults.MessageFault.{MessageFault};
 
+use graph::Refusal;
+use thiserror::Error;
+
 const CASE_LAYER: u8 = 2;
 
 /// Why a case is refused. An arc is named by its number: the fixed arcs first, then each pair's arms.
-#[derive(Clone, Copy, Debug, PartialEq, Eq)]
+#[derive(Clone, Copy, Debug, PartialEq, Eq, Error)]
 pub enum CaseFault {
     /// There is no event after the start, or there are too many.
+    #[error("the last event is not 1 to 511")]
     Events,
+    #[error("there are more than 2048 fixed arcs")]
     TooManyFixedArcs,
+    #[error("there are more than 60 pairs")]
     TooManyPairs,
     /// The arc has an end past the last event.
+    #[error("arc {0} has an event above the last")]
     UnknownEvent(usize),
     /// Both ends of the arc are one event.
+    #[error("arc {0} leads from an event to itself")]
     SameEvent(usize),
+    #[error("the weight of arc {0} is not -1000000 to 1000000")]
     Weight(usize),
+    #[error("the mark of arc {0} is not 0 or 1")]
     Mark(usize),
 }
 
-impl CaseFault {
-    /// The layer that refuses: the case.
-    pub fn layer(self) -> u8
-        ensures { result ≡ (of_case self).layer }
-    {
+impl Refusal for CaseFault {
+    ghost told = { of_case };
+
+    fn layer(self) -> u8 {
         CASE_LAYER
     }
 
-    /// What is wrong, by its number.
-    pub fn cause(self) -> u8
-        ensures { result ≡ (of_case self).cause }
-    {
+    fn cause(self) -> u8 {
         match self {
             CaseFault::Events | CaseFault::TooManyFixedArcs | CaseFault::TooManyPairs => 3,
             CaseFault::UnknownEvent(_) => 5,
@@ -40,10 +46,7 @@ impl CaseFault {
         }
     }
 
-    /// Where: the field of a size, in its order, or the arc.
-    pub fn place(self) -> usize
-        ensures { result ≡ (of_case self).place }
-    {
+    fn place(self) -> usize {
         match self {
             CaseFault::Events => 0,
             CaseFault::TooManyFixedArcs => 1,
@@ -57,36 +60,40 @@ impl CaseFault {
 }
 
 /// Why a message is refused, or is not written.
-#[derive(Clone, Copy, Debug, PartialEq, Eq)]
+#[derive(Clone, Copy, Debug, PartialEq, Eq, Error)]
 pub enum MessageFault {
     /// The message ends before its head does, after so many bytes.
+    #[error("the message has {0} bytes, and its head alone has 10")]
     Short(usize),
+    #[error("the version is not 1")]
     Version,
+    #[error("the last event is not 1 to 511")]
     Events,
+    #[error("there are more than 2048 fixed arcs")]
     TooManyFixedArcs,
+    #[error("there are more than 60 pairs")]
     TooManyPairs,
     /// The length that is told, or that of the bytes, is not what the counts ask for.
+    #[error("the length is not what the numbers of arcs and pairs ask for")]
     Length,
     /// So many bytes are needed to write the message, and there are fewer.
+    #[error("the message needs {0} bytes")]
     NoRoom(usize),
+    #[error(transparent)]
     Case(CaseFault),
 }
 
-impl MessageFault {
-    /// The layer that refuses: the message, or the case that it carries.
-    pub fn layer(self) -> u8
-        ensures { result ≡ (of_message self).layer }
-    {
+impl Refusal for MessageFault {
+    ghost told = { of_message };
+
+    fn layer(self) -> u8 {
         match self {
             MessageFault::Case(fault) => fault.layer(),
             _ => 1,
         }
     }
 
-    /// What is wrong, by its number.
-    pub fn cause(self) -> u8
-        ensures { result ≡ (of_message self).cause }
-    {
+    fn cause(self) -> u8 {
         match self {
             MessageFault::Short(_) => 1,
             MessageFault::Version => 2,
@@ -97,10 +104,7 @@ impl MessageFault {
         }
     }
 
-    /// Where: a byte of the message, a number of bytes, or where the case's fault is.
-    pub fn place(self) -> usize
-        ensures { result ≡ (of_message self).place }
-    {
+    fn place(self) -> usize {
         match self {
             MessageFault::Short(length) => length,
             MessageFault::Version => 4,

@@ -3,6 +3,5 @@
 #![tactic(auto)]
 
 mod faults;
-mod words;
 
 pub use faults::{CaseFault, MessageFault};

@@ -1,7 +1,6 @@
-pub mod Rooms
-pub mod Arms
+pub mod Joining
 pub mod Making
-pub mod Steps
+pub mod Moves
 pub mod Looks
 pub mod Walked
 pub mod Lowest

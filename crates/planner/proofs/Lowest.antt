@@ -42,29 +42,29 @@ module _ (c : Case) (r : Ranking) (m : Meaning) (hs : Selection) where
   least_push [] y b = refl
   least_push (x ∷ xs) y b = least_push xs y (smaller b (bound_at c r m hs x))
 
--- the least of b, the bound of the node xs up to depth, and those that wait at its first places
-pub record Lowering {V : Type 0} (rank : V → ℤ) (c : Case) (r : Ranking) (m : Meaning) (hs : Selection) (x : Node) (xs : List ℕ) (b : Option ℤ) (before times : List V) (least : Option V) (at : ℕ) : Type 0 where
-  pub so_far : RankIs rank least (least_over c r m hs (x ∷ waiting (take at xs)) b)
+-- the least of b, the bound of the node x, and those that wait at its first places
+pub record Lowering {V : Type 0} (rank : V → ℤ) (c : Case) (r : Ranking) (m : Meaning) (hs : Selection) (x : Node) (b : Option ℤ) (before times : List V) (least : Option V) (at : ℕ) : Type 0 where
+  pub so_far : RankIs rank least (least_over c r m hs (x ∷ waiting (take at x)) b)
   pub behind : drop (c.end + 1) times ≡ drop (c.end + 1) before
 
-module _ {V : Type 0} (rank : V → ℤ) (c : Case) (r : Ranking) (m : Meaning) (hs : Selection) (x : Node) (xs : List ℕ) (b : Option ℤ) (before : List V) where
-  pub lowering_more : (times times' : List V) (least least' found : Option V) (at : ℕ) → at < length xs → get_or xs at 0 ≡ 1
-      → RankIs rank found (bound_at c r m hs (take at xs ++ (2 ∷ []))) → drop (c.end + 1) times' ≡ drop (c.end + 1) times
+module _ {V : Type 0} (rank : V → ℤ) (c : Case) (r : Ranking) (m : Meaning) (hs : Selection) (x : Node) (b : Option ℤ) (before : List V) where
+  pub lowering_more : (times times' : List V) (least least' found : Option V) (at : ℕ) → at < length x → get_or x at 0 ≡ 1
+      → RankIs rank found (bound_at c r m hs (take at x ++ (2 ∷ []))) → drop (c.end + 1) times' ≡ drop (c.end + 1) times
       → ((p q : Option ℤ) → RankIs rank least p → RankIs rank found q → RankIs rank least' (smaller p q))
-      → Lowering rank c r m hs x xs b before times least at → Lowering rank c r m hs x xs b before times' least' (at + 1)
+      → Lowering rank c r m hs x b before times least at → Lowering rank c r m hs x b before times' least' (at + 1)
   lowering_more times times' least least' found at l e f d s o =
-      let w : waiting (take (at + 1) xs) ≡ waiting (take at xs) ++ ((take at xs ++ (2 ∷ [])) ∷ []) = ap waiting (take_more xs at 0 l) ∙ waiting_first_arm (take at xs) (get_or xs at 0) e in
-      let p : smaller (least_over c r m hs (x ∷ waiting (take at xs)) b) (bound_at c r m hs (take at xs ++ (2 ∷ []))) ≡ least_over c r m hs (x ∷ waiting (take (at + 1) xs)) b =
-      sym (least_push c r m hs (x ∷ waiting (take at xs)) (take at xs ++ (2 ∷ [])) b) ∙ ap (λ (u : List Node). least_over c r m hs (x ∷ u) b) (sym w) in
+      let w : waiting (take (at + 1) x) ≡ waiting (take at x) ++ ((take at x ++ (2 ∷ [])) ∷ []) = ap waiting (take_more x at 0 l) ∙ waiting_first_arm (take at x) (get_or x at 0) e in
+      let p : smaller (least_over c r m hs (x ∷ waiting (take at x)) b) (bound_at c r m hs (take at x ++ (2 ∷ []))) ≡ least_over c r m hs (x ∷ waiting (take (at + 1) x)) b =
+      sym (least_push c r m hs (x ∷ waiting (take at x)) (take at x ++ (2 ∷ [])) b) ∙ ap (λ (u : List Node). least_over c r m hs (x ∷ u) b) (sym w) in
       record {
-        so_far = subst (λ (z : Option ℤ). RankIs rank least' z) p (s (least_over c r m hs (x ∷ waiting (take at xs)) b) (bound_at c r m hs (take at xs ++ (2 ∷ []))) o.so_far f);
+        so_far = subst (λ (z : Option ℤ). RankIs rank least' z) p (s (least_over c r m hs (x ∷ waiting (take at x)) b) (bound_at c r m hs (take at x ++ (2 ∷ []))) o.so_far f);
         behind = d ∙ o.behind;
       }
 
-  pub lowering_past : (times : List V) (least : Option V) (at : ℕ) → at < length xs → (get_or xs at 0 ≡ 1 → ⊥) → Lowering rank c r m hs x xs b before times least at → Lowering rank c r m hs x xs b before times least (at + 1)
+  pub lowering_past : (times : List V) (least : Option V) (at : ℕ) → at < length x → (get_or x at 0 ≡ 1 → ⊥) → Lowering rank c r m hs x b before times least at → Lowering rank c r m hs x b before times least (at + 1)
   lowering_past times least at l e o =
-      let w : waiting (take (at + 1) xs) ≡ waiting (take at xs) = ap waiting (take_more xs at 0 l) ∙ waiting_other_arm (take at xs) (get_or xs at 0) e in
+      let w : waiting (take (at + 1) x) ≡ waiting (take at x) = ap waiting (take_more x at 0 l) ∙ waiting_other_arm (take at x) (get_or x at 0) e in
       record { so_far = subst (λ (u : List Node). RankIs rank least (least_over c r m hs (x ∷ u) b)) (sym w) o.so_far; behind = o.behind }
 
-  pub lowering_as : (times times' : List V) (least least' : Option V) (at : ℕ) → times ≡ times' → least ≡ least' → Lowering rank c r m hs x xs b before times' least' at → Lowering rank c r m hs x xs b before times least at
-  lowering_as times times' least least' at e f o = record { so_far = subst (λ (z : Option V). RankIs rank z (least_over c r m hs (x ∷ waiting (take at xs)) b)) (sym f) o.so_far; behind = ap (drop (c.end + 1)) e ∙ o.behind }
+  pub lowering_as : (times times' : List V) (least least' : Option V) (at : ℕ) → times ≡ times' → least ≡ least' → Lowering rank c r m hs x b before times' least' at → Lowering rank c r m hs x b before times least at
+  lowering_as times times' least least' at e f o = record { so_far = subst (λ (z : Option V). RankIs rank z (least_over c r m hs (x ∷ waiting (take at x)) b)) (sym f) o.so_far; behind = ap (drop (c.end + 1)) e ∙ o.behind }

@@ -1,2 +1,3 @@
-pub mod Room
+pub mod Small
+pub mod Nodes
 pub mod View

@@ -1,5 +1,5 @@
 -- What a planner stands for, and what its calls leave. Assumes nothing.
-use Rattle.std.specs.Prelude.{◌≡◌, ℕ, ◌+◌, ◌≤◌, Bool, true, false, List, [], ◌∷◌, ◌++◌, length, take, drop, ℤ, Some, None, Ok, Err, Option, Result, int_lt, slice_set}
+use Rattle.std.specs.Prelude.{◌≡◌, ℕ, ◌+◌, Bool, true, false, List, [], ◌∷◌, ◌++◌, length, take, drop, ℤ, Some, None, Ok, Err, Option, Result, int_lt, is_none, slice_set}
 use Rattle.graph.specs.Faults.{Fault}
 use Rattle.graph.specs.Graph.{Case, Ranking}
 use Rattle.graph.specs.Times.{least_times}
@@ -10,7 +10,7 @@ use Rattle.search.specs.Search as Walk
 use Rattle.search.specs.Search.{opened, fresh, after, better, plan_times}
 use Rattle.search.specs.Sound.{Call, refusal, called, reached, GoesOn, GetsOn, Lawful}
 use Rattle.search.specs.declared.faults.PlannerFault.{PlannerFault}
-use Rattle.planner.specs.Room.{small}
+use Rattle.planner.specs.Nodes.{next_of}
 use Rattle.planner.specs.declared.table.Table.{Table}
 use Rattle.planner.specs.declared.table.Plan.{Plan}
 use Rattle.planner.specs.declared.calls.Planner.{Planner}
@@ -18,11 +18,11 @@ use Rattle.planner.specs.declared.calls.Planner.{Planner}
 -- the plan that is stored: of its sixty places, the first n stand for pairs
 abbrev pub plan_of : {V : Type 0} → (V → ℤ) → ℕ → Option (Plan V) → Option Walk.Plan
 plan_of rank n None = None
-plan_of rank n (Some p) = Some (record { arms = take n p.arms; delay = rank p.delay })
+plan_of rank n (Some p) = Some (record { arms = take n p.arms.places; delay = rank p.delay })
 
 -- the state that a table stands for: of its sixty places, the first n stand for pairs
 abbrev pub table_of : {V : Type 0} → (V → ℤ) → ℕ → Table V → Walk.Planner
-table_of rank n t = record { holds = take n t.holds; next = take t.depth t.next; plan = plan_of rank n t.plan; lower = rank t.lower; count = t.count; finished = t.finished }
+table_of rank n t = record { holds = take n t.holds.places; next = next_of t.place.next; plan = plan_of rank n t.plan; lower = rank t.lower; count = t.place.count; finished = is_none t.place.next }
 
 -- the state that a planner stands for
 abbrev pub view : {S V B : Type 0} → (S → Case) → (V → ℤ) → Planner S V B → Walk.Planner
@@ -37,19 +37,9 @@ abbrev pub betters : ℤ → Option Walk.Plan → Bool
 betters z None = true
 betters z (Some p) = int_lt z p.delay
 
--- the depth of the node that is turned to, if there is one
-abbrev pub Turned : List ℕ → ℕ → List ℕ → Option ℕ → Type 0
-Turned before depth after' None = after (take depth before) ≡ None
-Turned before depth after' (Some d) = (d ≤ 60) × (after (take depth before) ≡ Some (take d after'))
-
--- a node turned in place, with no arm past 2 where there was none
-pub record TurnedTo (depth : ℕ) (before after' : List ℕ) (r : Option ℕ) : Type 0 where
-  pub to : Turned before depth after' r
-  pub arms : small before ≡ true → small after' ≡ true
-
 -- the least of the plan's delay and the bounds of the nodes that are left
-abbrev pub least_left : Case → Ranking → Meaning → Walk.Planner → Option ℤ
-least_left c r m w = Walk.least_over c r m w.holds (w.next ∷ Walk.waiting w.next) (Walk.plan_delay w.plan)
+abbrev pub least_left : Case → Ranking → Meaning → List ℕ → Walk.Node → Option Walk.Plan → Option ℤ
+least_left c r m hs x p = Walk.least_over c r m hs (x ∷ Walk.waiting x) (Walk.plan_delay p)
 
 -- an answer of this rank, and the times behind a place for each event as they were
 pub record Ranked {V : Type 0} (rank : V → ℤ) (c : Case) (z : Option ℤ) (times times' : List V) (found : Option V) : Type 0 where

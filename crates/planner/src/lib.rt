@@ -3,8 +3,10 @@
 
 #![tactic(auto)]
 
+mod arms;
 mod calls;
-mod moves;
+mod node;
+mod place;
 mod questions;
 mod table;
 mod walk;

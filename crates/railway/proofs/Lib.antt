@@ -1,7 +1,4 @@
-pub mod Arcs
-pub mod Checking
-pub mod Fillings
-pub mod Lists
-pub mod Meetings
+pub mod Sums
 pub mod Tables
-pub mod Trips
+pub mod Checking
+pub mod Cases

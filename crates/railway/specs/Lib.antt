@@ -1,3 +1,3 @@
+pub mod Sound
 pub mod Trips
 pub mod Tables
-pub mod Means

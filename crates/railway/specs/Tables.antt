@@ -1,35 +1,25 @@
 -- What the tables of a railway stand for. Assumes nothing.
-use Rattle.std.specs.Prelude.{◌≡◌, ℕ, ◌+◌, ◌<◌, ◌≤◌, List, [], ◌∷◌, ◌++◌, map, length, take, ℤ, pos, Some, None, Option}
+use Rattle.std.specs.Prelude.{◌≡◌, ℕ, ◌+◌, ◌<◌, List, ◌++◌, map, length, take, Result, MatchResult}
 use Rattle.graph.specs.Graph.{Arc, Pair}
 use Rattle.graph.specs.Views.{arc_of, pair_of}
 use Rattle.graph.specs.declared.arc.Arc.{Arc as ArcRecord}
 use Rattle.graph.specs.declared.arc.Pair.{Pair as PairRecord}
+use Rattle.railway.specs.declared.table.Table.{Table}
+use Rattle.railway.specs.declared.table.Full.{Full}
 
--- the arcs in the first n entries of a table
-abbrev pub arcs_in : ℕ → List ArcRecord → List Arc
-arcs_in n table = map arc_of (take n table)
+-- the entries of a table
+abbrev pub listed : {T : Type 0} {N : ℕ} → Table T N → List T
+listed t = take t.len t.entries
 
--- the pairs in the first n entries of a table
-abbrev pub pairs_in : ℕ → List PairRecord → List Pair
-pairs_in n table = map pair_of (take n table)
+-- the arcs of a table
+abbrev pub arcs_in : {N : ℕ} → Table ArcRecord N → List Arc
+arcs_in t = map arc_of (listed t)
 
--- pairs that were added to a table of sixty entries after the first n; none where there are more than entries
-abbrev pub Added : List Pair → List PairRecord → ℕ → List PairRecord → Option ℕ → Type 0
-Added new before n after None = 60 < n + length new
-Added new before n after (Some m) = (m ≤ 60) × (pairs_in m after ≡ pairs_in n before ++ new)
+-- the pairs of a table
+abbrev pub pairs_in : {N : ℕ} → Table PairRecord N → List Pair
+pairs_in t = map pair_of (listed t)
 
--- an arc as numbers
-abbrev pub arc_code : Arc → List ℤ
-arc_code a = pos a.from ∷ pos a.to ∷ a.weight ∷ pos a.mark ∷ []
-
--- arcs as numbers, so that a struct can say that it holds them
-abbrev pub arc_codes : List Arc → List (List ℤ)
-arc_codes xs = map arc_code xs
-
--- a pair as numbers, arm by arm
-abbrev pub pair_code : Pair → List ℤ
-pair_code p = arc_code p.first ++ arc_code p.second
-
--- pairs as numbers, so that a struct can say that it holds them
-abbrev pub pair_codes : List Pair → List (List ℤ)
-pair_codes ps = map pair_code ps
+-- pairs that were added to a table of sixty entries; none where there are more than entries
+abbrev pub Added : List Pair → Table PairRecord 60 → Table PairRecord 60 → Result (Unit {0}) Full → Type 0
+Added new before after r =
+    MatchResult r (λ _. pairs_in after ≡ pairs_in before ++ new) (λ _. 60 < length (listed before) + length new)

@@ -1,55 +1,68 @@
-ghost use Rattle.std.specs.Prelude.{◌≡◌, ◌≤◌, length};
-ghost use Rattle.trains.specs.Named.{railway_told};
-ghost use Rattle.trains.specs.Railway.{train_breaks, step_breaks, trains_fault, steps_fault, steps_of};
+ghost use Rattle.std.specs.Prelude.{◌≡◌, ◌≤◌, Bool, Some, length, MatchResult};
+ghost use Rattle.std.specs.List.{position_from};
+ghost use Rattle.trains.specs.Named.{of_railway};
+ghost use Rattle.trains.specs.Railway.{train_breaks, step_breaks, steps_of, railway_fault};
+ghost use Rattle.railway.specs.Sound.{Sound, pairs_fault};
 
 use trains::{RailwayFault, Step, Train};
 
-/// Whether a field of a train is past its limit.
-fn train_breaks(train: Train) -> bool
-    ensures { result ≡ train_breaks train }
-{
-    train.entry > 86_400 || train.due > 86_400 || train.steps == 0 || train.steps > 16
+/// What has limits of its own.
+trait Limited: Copy {
+    ghost breaks: { Self → Bool };
+
+    /// Whether a field is past its limit.
+    fn breaks_limit(self) -> bool
+        ensures { result ≡ breaks self };
 }
 
-/// Whether a field of a step is past its limit.
-fn step_breaks(step: Step) -> bool
-    ensures { result ≡ step_breaks step }
-{
-    step.section > 63 || step.running == 0 || step.running > 3_600
-}
+impl Limited for Train {
+    ghost breaks = { train_breaks };
 
-/// Checks each train by itself.
-pub(crate) fn check_trains(trains: &[Train]) -> Result<(), RailwayFault>
-    ensures { railway_told result ≡ trains_fault 0 trains.now }
-{
-    for (at, train) in trains.iter().enumerate() {
-        if train_breaks(*train) {
-            return Err(RailwayFault::Train(at));
-        }
+    fn breaks_limit(self) -> bool {
+        self.entry > 86_400 || self.due > 86_400 || self.steps == 0 || self.steps > 16
     }
-    Ok(())
 }
 
-/// Checks each step by itself.
-pub(crate) fn check_steps(steps: &[Step]) -> Result<(), RailwayFault>
-    ensures { railway_told result ≡ steps_fault 0 steps.now }
-{
-    for (at, step) in steps.iter().enumerate() {
-        if step_breaks(*step) {
-            return Err(RailwayFault::Step(at));
-        }
+impl Limited for Step {
+    ghost breaks = { step_breaks };
+
+    fn breaks_limit(self) -> bool {
+        self.section > 63 || self.running == 0 || self.running > 3_600
     }
-    Ok(())
+}
+
+/// The first that breaks a limit.
+fn first_breaking<T: Limited>(all: &[T]) -> Option<usize>
+    ensures { result ≡ position_from T.breaks 0 all.now }
+{
+    all.iter().position(|each| each.breaks_limit())
 }
 
 /// How many steps the trains ask for.
-pub(crate) fn step_count(trains: &[Train]) -> usize
+fn step_count(trains: &[Train]) -> usize
     requires { length trains.now ≤ 12 }
     ensures { result ≡ steps_of trains.now }
 {
-    let mut count = 0;
-    for at in 0..trains.len() {
-        count += trains[at].steps as usize;
+    trains.iter().map(|train| usize::from(train.steps)).sum()
+}
+
+/// Checks the number of trains, each train, the number of steps and each step.
+#[tactic(auto, using(crate::proofs::Checking::first_train_fault, crate::proofs::Checking::first_step_fault))]
+pub(crate) fn check_limits(trains: &[Train], steps: &[Step]) -> Result<(), RailwayFault>
+    ensures told { MatchResult result (λ _. railway_fault trains.now steps.now ≡ pairs_fault trains.now steps.now) (λ f. railway_fault trains.now steps.now ≡ Some (of_railway f)) }
+    ensures sound { MatchResult result (λ _. Sound trains.now steps.now) (λ _. Unit {0}) }
+{
+    if trains.len() > 12 {
+        return Err(RailwayFault::TooManyTrains);
     }
-    count
+    if let Some(at) = first_breaking(trains) {
+        return Err(RailwayFault::Train(at));
+    }
+    if steps.len() != step_count(trains) {
+        return Err(RailwayFault::Steps(steps.len()));
+    }
+    if let Some(at) = first_breaking(steps) {
+        return Err(RailwayFault::Step(at));
+    }
+    Ok(())
 }

@@ -1,94 +1,70 @@
-ghost use Rattle.std.specs.Prelude.{◌≡◌, ◌+◌, ◌<◌, ◌≤◌, ◌++◌, length, Some};
-ghost use Rattle.std.specs.List.{slice_get};
+ghost use Rattle.std.specs.Prelude.{◌≡◌, ◌+◌, ◌*◌, ◌≤◌, ◌++◌, [], length};
 ghost use Rattle.graph.specs.Views.{arc_of};
-ghost use Rattle.trains.specs.Railway.{trips, running_sum, trip_arcs, all_arcs};
-ghost use Rattle.railway.specs.Tables.{arcs_in};
-ghost use Rattle.railway.specs.Trips.{trip_of, TripFits, Sound};
+ghost use Rattle.trains.specs.Railway.{trip_arcs, all_arcs, arc, running_sum};
+ghost use Rattle.railway.specs.Tables.{listed, arcs_in};
+ghost use Rattle.railway.specs.Trips.{trip_of, trips_left};
 
-use super::trip::{Trip, trip_at};
+use super::table::Table;
+use super::trip::{Trip, Trips};
 use graph::Arc;
-use trains::{Step, Train};
 
-/// The seconds of all steps of a trip together.
-fn running_sum(trip: Trip, steps: &[Step]) -> u32
-    requires { TripFits (length steps.now) trip }
-    ensures is { result ≡ running_sum (trip_of steps.now trip).steps }
-    ensures few { result ≤ 65536000 }
+/// A fixed arc: it asks for no mark.
+pub(crate) fn fixed_arc(from: u16, to: u16, weight: i32) -> Arc
+    ensures { arc_of result ≡ arc from to weight 0 }
 {
-    let mut sum = 0;
-    for at in 0..trip.steps {
-        sum += steps[trip.from + at].running as u32;
-    }
-    sum
-}
-
-/// The arc of a trip at an index: from the start, then one for each step, then to the end.
-fn trip_arc(trip: Trip, at: usize, end: u16, steps: &[Step]) -> Arc
-    requires trip { TripFits (length steps.now) trip }
-    requires at { at < trip.steps + 2 }
-    ensures { Some (arc_of result) ≡ slice_get (trip_arcs end (trip_of steps.now trip)) at }
-{
-    if at == 0 {
-        return Arc {
-            from: 0,
-            to: trip.first as u16,
-            weight: trip.entry as i32,
-            mark: 0,
-        };
-    }
-    let done = at - 1;
-    let event = (trip.first + done) as u16;
-    if done < trip.steps {
-        return Arc {
-            from: event,
-            to: event + 1,
-            weight: steps[trip.from + done].running as i32,
-            mark: 0,
-        };
-    }
-    let arrival = trip.entry + running_sum(trip, steps);
-    let latest = if trip.due > arrival {
-        trip.due
-    } else {
-        arrival
-    };
     Arc {
-        from: event,
-        to: end,
-        weight: -(latest as i32),
+        from,
+        to,
+        weight,
         mark: 0,
     }
 }
 
-/// Lists the arcs of a trip behind the first `listed` entries of the table, and says how many entries there are then.
-fn list_trip(trip: Trip, end: u16, steps: &[Step], table: &mut [Arc; 216], listed: usize) -> usize
-    requires trip { TripFits (length steps.now) trip }
-    requires room { listed + (trip.steps + 2) ≤ 216 }
-    ensures count { result ≡ listed + (trip.steps + 2) }
-    ensures arcs { arcs_in result table.new ≡ arcs_in listed table.old ++ trip_arcs end (trip_of steps.now trip) }
-{
-    let size = trip.steps + 2;
-    for at in 0..size {
-        table[listed + at] = trip_arc(trip, at, end, steps);
+impl<'a> Trip<'a> {
+    /// The seconds of all steps together.
+    fn running(&self) -> u32
+        ensures is { result ≡ running_sum self.now.steps.now }
+        ensures few { result ≤ 65535 * 16 }
+    {
+        let mut sum = 0;
+        for step in self.steps {
+            sum += u32::from(step.running);
+        }
+        sum
     }
-    listed + size
+
+    /// Lists the arcs of the trip: from the start, then one for each step, then to the end.
+    fn list_arcs(&self, end: u16, arcs: &mut Table<Arc, 216>)
+        requires { length (listed arcs.old) + (length self.now.steps.now + 2) ≤ 216 }
+        ensures count { length (listed arcs.new) ≡ length (listed arcs.old) + (length self.now.steps.now + 2) }
+        ensures arcs { arcs_in arcs.new ≡ arcs_in arcs.old ++ trip_arcs end (trip_of self.now) }
+    {
+        arcs.push(fixed_arc(0, self.first, self.entry as i32));
+        for (at, step) in self.steps.iter().enumerate() {
+            let event = self.first + at as u16;
+            arcs.push(fixed_arc(event, event + 1, i32::from(step.running)));
+        }
+        let exit = self.first + self.steps.len() as u16;
+        let latest = self.due.max(self.entry + self.running());
+        arcs.push(fixed_arc(exit, end, -(latest as i32)));
+    }
 }
 
-/// Lists the fixed arcs of all trains, and says how many there are.
-pub(crate) fn list_fixed(
-    trains: &[Train],
-    steps: &[Step],
-    end: u16,
-    table: &mut [Arc; 216],
-) -> usize
-    requires { Sound trains.now steps.now }
-    ensures few { result ≤ 216 }
-    ensures arcs { arcs_in result table.new ≡ all_arcs end (trips 1 trains.now steps.now) }
+/// The table without arcs.
+pub(crate) fn no_arcs() -> Table<Arc, 216>
+    ensures { listed result ≡ [] }
 {
-    let mut count = 0;
-    for at in 0..trains.len() {
-        let trip = trip_at(trains, at);
-        count = list_trip(trip, end, steps, table, count);
+    Table::new(fixed_arc(0, 0, 0))
+}
+
+/// Lists the fixed arcs of all trips.
+pub(crate) fn list_fixed(trips: Trips, end: u16) -> Table<Arc, 216>
+    requires { length (trips_left trips) ≤ 12 }
+    ensures { arcs_in result ≡ all_arcs end (trips_left trips.entry) }
+{
+    let mut arcs = no_arcs();
+    for trip in trips {
+        trip.list_arcs(end, &mut arcs);
     }
-    count
+    arcs
 }

@@ -7,6 +7,7 @@ mod check;
 mod fixed;
 mod pairs;
 mod source;
+mod table;
 mod trip;
 
 pub use source::{Railway, check_railway};

@@ -1,19 +1,27 @@
-ghost use Rattle.std.specs.Prelude.{◌≡◌, ◌+◌, ◌≤◌, length, drop, pos};
-ghost use Rattle.graph.specs.Views.{pair_of};
+ghost use Rattle.std.specs.Prelude.{◌≡◌, ◌+◌, ◌<◌, ◌≤◌, [], length, pos, MatchResult};
+ghost use Rattle.graph.specs.Views.{arc_of, pair_of};
 ghost use Rattle.trains.specs.Kinds.{separation};
-ghost use Rattle.trains.specs.Railway.{trips, met, step_pairs, trip_pairs, pairs_with, all_pairs};
-ghost use Rattle.railway.specs.Tables.{Added};
-ghost use Rattle.railway.specs.Trips.{trip_of, TripFits, Sound};
+ghost use Rattle.trains.specs.Railway.{arc, met, step_pairs, trip_pairs, pairs_with, all_pairs};
+ghost use Rattle.railway.specs.Tables.{listed, pairs_in, Added};
+ghost use Rattle.railway.specs.Trips.{trip_of, trips_left};
 
-use super::trip::{Trip, trip_at};
+use super::fixed::fixed_arc;
+use super::table::{Full, Table};
+use super::trip::{Trip, Trips};
 use graph::{Arc, Pair};
-use trains::{Kind, Step, Train};
+use trains::{Kind, Step};
 
-/// The weight of the arm by which a train of one kind goes before one of another.
-fn weight(first: Kind, then: Kind) -> i32
-    ensures { result ≡ pos (separation first then) }
+/// The arm by which a train of one kind goes before one of another.
+fn arm(first: Kind, begins: u16, then: Kind, then_begins: u16) -> Arc
+    requires { begins ≤ 1000 }
+    ensures { arc_of result ≡ arc (begins + 1) then_begins (pos (separation first then)) 1 }
 {
-    first.separation(then) as i32
+    Arc {
+        from: begins + 1,
+        to: then_begins,
+        weight: i32::from(first.separation(then)),
+        mark: 1,
+    }
 }
 
 /// The pair of two steps on one section, by the events at which they begin.
@@ -23,110 +31,73 @@ fn meeting(one: Kind, other: Kind, begins: u16, other_begins: u16) -> Pair
     ensures { pair_of result ≡ met one other begins other_begins }
 {
     Pair {
-        first: Arc {
-            from: begins + 1,
-            to: other_begins,
-            weight: weight(one, other),
-            mark: 1,
-        },
-        second: Arc {
-            from: other_begins + 1,
-            to: begins,
-            weight: weight(other, one),
-            mark: 1,
-        },
+        first: arm(one, begins, other, other_begins),
+        second: arm(other, other_begins, one, begins),
     }
 }
 
-/// Lists the pairs of one step with the steps of another train. None where the table is full before they are.
-fn list_step(
-    one: Trip,
-    step: Step,
-    begins: u16,
-    other: Trip,
-    steps: &[Step],
-    table: &mut [Pair; 60],
-    listed: usize,
-) -> Option<usize>
-    requires begins { begins ≤ 1000 }
-    requires other { TripFits (length steps.now) other }
-    requires listed { listed ≤ 60 }
-    ensures { Added (step_pairs (trip_of steps.now one) (trip_of steps.now other) begins step other.first (trip_of steps.now other).steps) table.old listed table.new result }
-{
-    let mut count = listed;
-    for at in 0..other.steps {
-        if step.section == steps[other.from + at].section {
-            if count == 60 {
-                return None;
+impl<'a> Trip<'a> {
+    /// Lists the pairs of one step with the steps of another train.
+    fn list_step(
+        &self,
+        begins: u16,
+        step: Step,
+        other: &Trip,
+        pairs: &mut Table<Pair, 60>,
+    ) -> Result<(), Full>
+        requires { begins ≤ 1000 }
+        ensures { Added (step_pairs (trip_of self.now) (trip_of other.now) begins step other.now.first other.now.steps.now) pairs.old pairs.new result }
+    {
+        for (at, passed) in other.steps.iter().enumerate() {
+            if step.section == passed.section {
+                let passes = other.first + at as u16;
+                pairs.try_push(meeting(self.kind, other.kind, begins, passes))?;
             }
-            table[count] = meeting(one.kind, other.kind, begins, (other.first + at) as u16);
-            count += 1;
         }
+        Ok(())
     }
-    Some(count)
+
+    /// Lists the pairs with another train.
+    fn list_meetings(&self, other: &Trip, pairs: &mut Table<Pair, 60>) -> Result<(), Full>
+        ensures { Added (trip_pairs (trip_of self.now) (trip_of other.now) self.now.first self.now.steps.now) pairs.old pairs.new result }
+    {
+        for (at, step) in self.steps.iter().enumerate() {
+            self.list_step(self.first + at as u16, *step, other, pairs)?;
+        }
+        Ok(())
+    }
+
+    /// Lists the pairs with each of the others.
+    #[tactic(auto, using(crate::proofs::Tables::too_many))]
+    fn list_with(&self, others: Trips, pairs: &mut Table<Pair, 60>) -> Result<(), Full>
+        ensures { Added (pairs_with (trip_of self.now) (trips_left others.entry)) pairs.old pairs.new result }
+    {
+        for other in others {
+            self.list_meetings(&other, pairs)?;
+        }
+        Ok(())
+    }
 }
 
-/// Lists the pairs of two trains.
-fn list_trips(
-    one: Trip,
-    other: Trip,
-    steps: &[Step],
-    table: &mut [Pair; 60],
-    listed: usize,
-) -> Option<usize>
-    requires one { TripFits (length steps.now) one }
-    requires other { TripFits (length steps.now) other }
-    requires listed { listed ≤ 60 }
-    ensures { Added (trip_pairs (trip_of steps.now one) (trip_of steps.now other) one.first (trip_of steps.now one).steps) table.old listed table.new result }
+/// The table without pairs.
+pub(crate) fn no_pairs() -> Table<Pair, 60>
+    ensures { listed result ≡ [] }
 {
-    let mut count = listed;
-    for at in 0..one.steps {
-        let step = steps[one.from + at];
-        count = list_step(
-            one,
-            step,
-            (one.first + at) as u16,
-            other,
-            steps,
-            table,
-            count,
-        )?;
-    }
-    Some(count)
+    let blank = fixed_arc(0, 0, 0);
+    Table::new(Pair {
+        first: blank,
+        second: blank,
+    })
 }
 
-/// Lists the pairs of a train with each train from `after` on.
-fn list_with(
-    one: Trip,
-    after: usize,
-    trains: &[Train],
-    steps: &[Step],
-    table: &mut [Pair; 60],
-    listed: usize,
-) -> Option<usize>
-    requires one { TripFits (length steps.now) one }
-    requires after { after ≤ length trains.now }
-    requires sound { Sound trains.now steps.now }
-    requires listed { listed ≤ 60 }
-    ensures { Added (pairs_with (trip_of steps.now one) (drop after (trips 1 trains.now steps.now))) table.old listed table.new result }
+/// Lists the pairs of all trains, each with those after it.
+pub(crate) fn list_pairs(trips: Trips) -> Result<Table<Pair, 60>, Full>
+    ensures { MatchResult result (λ pairs. pairs_in pairs ≡ all_pairs (trips_left trips.entry)) (λ _. 60 < length (all_pairs (trips_left trips.entry))) }
 {
-    let mut count = listed;
-    for at in after..trains.len() {
-        let other = trip_at(trains, at);
-        count = list_trips(one, other, steps, table, count)?;
+    let mut pairs = no_pairs();
+    let mut later = trips;
+    while let Some(one) = later.next() {
+        one.list_with(later, &mut pairs)?;
     }
-    Some(count)
-}
-
-/// Lists the pairs of all trains. None where there are more than sixty.
-pub(crate) fn list_pairs(trains: &[Train], steps: &[Step], table: &mut [Pair; 60]) -> Option<usize>
-    requires { Sound trains.now steps.now }
-    ensures { Added (all_pairs (trips 1 trains.now steps.now)) table.old 0 table.new result }
-{
-    let mut count = 0;
-    for at in 0..trains.len() {
-        let one = trip_at(trains, at);
-        count = list_with(one, at + 1, trains, steps, table, count)?;
-    }
-    Some(count)
+    Ok(pairs)
 }

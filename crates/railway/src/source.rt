@@ -1,50 +1,26 @@
-ghost use Rattle.std.specs.Prelude.{◌≡◌, ◌≤◌, IfOk};
+ghost use Rattle.std.specs.Prelude.{◌≡◌, IfOk};
 ghost use Rattle.trains.specs.Named.{railway_told};
-ghost use Rattle.trains.specs.Railway.{trips, all_pairs, railway_fault, railway_case};
+ghost use Rattle.trains.specs.Railway.{railway_fault, railway_case};
 ghost use Rattle.trains.specs.Running.{RunsLaw};
-ghost use Rattle.railway.specs.Tables.{arcs_in, pairs_in, arc_codes, pair_codes};
-ghost use Rattle.railway.specs.Means.{railway_means};
+ghost use Rattle.railway.specs.Tables.{arcs_in, pairs_in};
+ghost use Rattle.trains.proofs.Railways.{railway_within};
 
-use super::check::{check_steps, check_trains, step_count};
-use super::fixed::list_fixed;
-use super::pairs::list_pairs;
-use super::trip::last_event;
+use super::check::check_limits;
+use super::fixed::{list_fixed, no_arcs};
+use super::pairs::{list_pairs, no_pairs};
+use super::table::{Full, Table};
+use super::trip::Trips;
 use graph::{Arc, CaseSource, Pair};
 use trains::{RailwayFault, Step, Train};
 
-/// What stands in the entries of a table that are not used.
-const NO_ARC: Arc = Arc {
-    from: 0,
-    to: 0,
-    weight: 0,
-    mark: 0,
-};
+/// Of the two tables of a railway only that of the pairs can be full.
+impl From<Full> for RailwayFault {
+    ghost use Rattle.trains.specs.declared.faults.RailwayFault.TheVariants.{TooManyPairs};
 
-const NO_PAIR: Pair = Pair {
-    first: NO_ARC,
-    second: NO_ARC,
-};
+    ghost from_gives = { λ _ fault. fault ≡ TooManyPairs };
 
-/// Checks a railway, and lists its pairs.
-fn list_railway(
-    trains: &[Train],
-    steps: &[Step],
-    table: &mut [Pair; 60],
-) -> Result<usize, RailwayFault>
-    ensures told { railway_told result ≡ railway_fault trains.now steps.now }
-    ensures listed { IfOk result (λ n. (n ≤ 60) × (pairs_in n table.new ≡ all_pairs (trips 1 trains.now steps.now))) }
-{
-    if trains.len() > 12 {
-        return Err(RailwayFault::TooManyTrains);
-    }
-    check_trains(trains)?;
-    if steps.len() != step_count(trains) {
-        return Err(RailwayFault::Steps(steps.len()));
-    }
-    check_steps(steps)?;
-    match list_pairs(trains, steps, table) {
-        Some(count) => Ok(count),
-        None => Err(RailwayFault::TooManyPairs),
+    fn from(_full: Full) -> RailwayFault {
+        RailwayFault::TooManyPairs
     }
 }
 
@@ -54,8 +30,7 @@ pub fn check_railway(trains: &[Train], steps: &[Step]) -> Result<(), RailwayFaul
     ensures told { railway_told result ≡ railway_fault trains.now steps.now }
     ensures law { RunsLaw trains.now steps.now }
 {
-    let mut pairs = [NO_PAIR; 60];
-    list_railway(trains, steps, &mut pairs)?;
+    Railway::read(trains, steps)?;
     Ok(())
 }
 
@@ -67,80 +42,72 @@ pub struct Railway<'a> {
     steps: &'a [Step],
     end: usize,
     /// At most 12 trains have at most 18 fixed arcs each.
-    fixed: [Arc; 216],
-    fixed_len: usize,
-    pairs: [Pair; 60],
-    pairs_len: usize,
+    fixed: Table<Arc, 216>,
+    pairs: Table<Pair, 60>,
     ghost last: { end ≡ (railway_case trains.now steps.now).end },
-    ghost few_fixed: { fixed_len ≤ 216 },
-    ghost few_pairs: { pairs_len ≤ 60 },
-    ghost fixed_listed: { arc_codes (arcs_in fixed_len fixed) ≡ arc_codes (railway_case trains.now steps.now).fixed },
-    ghost pairs_listed: { pair_codes (pairs_in pairs_len pairs) ≡ pair_codes (railway_case trains.now steps.now).pairs },
+    ghost fixed_listed: { arcs_in fixed ≡ (railway_case trains.now steps.now).fixed },
+    ghost pairs_listed: { pairs_in pairs ≡ (railway_case trains.now steps.now).pairs },
 }
 
 impl<'a> Railway<'a> {
+    /// The railway of these trains, whose steps stand in one list, train by train, where it passes its check.
+    pub fn read(trains: &'a [Train], steps: &'a [Step]) -> Result<Railway<'a>, RailwayFault>
+        ensures told { railway_told result ≡ railway_fault trains.now steps.now }
+        ensures read { IfOk result (λ r. (r.trains.now ≡ trains.now) × (r.steps.now ≡ steps.now)) }
+    {
+        check_limits(trains, steps)?;
+        let trips = Trips::over(trains, steps);
+        let pairs = list_pairs(trips)?;
+        let end = 1 + trains.len() + steps.len();
+        Ok(Railway {
+            trains,
+            steps,
+            end,
+            fixed: list_fixed(trips, end as u16),
+            pairs,
+        })
+    }
+
     /// The railway of these trains, whose steps stand in one list, train by train.
     pub fn over(trains: &'a [Train], steps: &'a [Step]) -> Railway<'a>
         ensures trains { result.trains.now ≡ trains.now }
         ensures steps { result.steps.now ≡ steps.now }
     {
-        let mut fixed = [NO_ARC; 216];
-        let mut pairs = [NO_PAIR; 60];
-        match list_railway(trains, steps, &mut pairs) {
-            Ok(pairs_len) => {
-                let end = last_event(trains);
-                let fixed_len = list_fixed(trains, steps, end as u16, &mut fixed);
-                Railway {
-                    trains,
-                    steps,
-                    end,
-                    fixed,
-                    fixed_len,
-                    pairs,
-                    pairs_len,
-                }
-            }
+        match Railway::read(trains, steps) {
+            Ok(railway) => railway,
             Err(_) => Railway {
                 trains,
                 steps,
                 end: 1,
-                fixed,
-                fixed_len: 0,
-                pairs,
-                pairs_len: 0,
+                fixed: no_arcs(),
+                pairs: no_pairs(),
             },
         }
     }
 }
 
 impl<'a> CaseSource for Railway<'a> {
-    ghost means = { λ s. railway_means s.trains.now s.steps.now };
+    ghost means = { λ s. railway_case s.trains.now s.steps.now };
+
+    ghost within = { λ s. railway_within s.trains.now s.steps.now };
 
     fn end(&self) -> usize {
         self.end
     }
 
     fn fixed_count(&self) -> usize {
-        self.fixed_len
+        self.fixed.as_slice().len()
     }
 
     fn pair_count(&self) -> usize {
-        self.pairs_len
+        self.pairs.as_slice().len()
     }
 
     fn fixed_arc(&self, at: usize) -> Option<Arc> {
-        if at < self.fixed_len {
-            Some(self.fixed[at])
-        } else {
-            None
-        }
+        self.fixed.as_slice().get(at).copied()
     }
 
     fn arm(&self, pair: usize, arm: u8) -> Option<Arc> {
-        if pair >= self.pairs_len || arm == 0 || arm > 2 {
-            return None;
-        }
-        let Pair { first, second } = self.pairs[pair];
-        Some(if arm == 1 { first } else { second })
+        self.pairs.as_slice().get(pair)?.arm(arm)
     }
 }

@@ -1,62 +1,77 @@
-ghost use Rattle.std.specs.Prelude.{◌≡◌, ◌+◌, ◌*◌, ◌<◌, ◌≤◌, List, length, Some, None};
-ghost use Rattle.std.specs.List.{slice_get};
-ghost use Rattle.trains.specs.Railway.{trips, last_event, steps_of, trains_fault};
-ghost use Rattle.trains.specs.declared.train.Step.{Step as StepMeant};
-ghost use Rattle.railway.specs.Trips.{trip_of, TripFits};
+ghost use Rattle.std.specs.Prelude.{◌≡◌, ◌+◌, ◌*◌, ◌≤◌, length, false};
+ghost use Rattle.std.specs.List.{list_any};
+ghost use Rattle.trains.specs.Railway.{train_breaks, steps_of};
 
-use trains::{Kind, Train};
+use trains::{Kind, Step, Train};
 
-/// A train with its first event, and with its first step in the list of all steps.
+/// A train that passes its checks, with its first event and its own steps.
 #[derive(Clone, Copy)]
-pub(crate) struct Trip {
+pub(crate) struct Trip<'a> {
     pub kind: Kind,
     pub entry: u32,
     pub due: u32,
-    pub first: usize,
-    pub from: usize,
-    pub steps: usize,
+    pub first: u16,
+    pub steps: &'a [Step],
+    ghost early_entry: { entry ≤ 86400 },
+    ghost early_due: { due ≤ 86400 },
+    ghost few: { length steps.now ≤ 16 },
+    ghost events: { first + length steps.now ≤ 1000 },
 }
 
-/// The last event.
-pub(crate) fn last_event(trains: &[Train]) -> usize
-    requires { length trains.now ≤ 12 }
-    ensures is { result ≡ last_event 1 trains.now }
-    ensures few { result ≤ 1 + 256 * length trains.now }
-{
-    let mut event = 1;
-    for at in 0..trains.len() {
-        event += trains[at].steps as usize + 1;
-    }
-    event
+/// The trips of trains that pass their checks, one after the other: each has an event for each step and one for its exit.
+#[derive(Clone, Copy)]
+pub(crate) struct Trips<'a> {
+    trains: &'a [Train],
+    steps: &'a [Step],
+    first: u16,
+    ghost sound: { list_any train_breaks trains.now ≡ false },
+    ghost long: { length steps.now ≡ steps_of trains.now },
+    ghost events: { first + 17 * length trains.now ≤ 1000 },
 }
 
-/// A train with its first event and its first step.
-pub(crate) fn trip_at(trains: &[Train], at: usize) -> Trip
-    requires few { length trains.now ≤ 12 }
-    requires at { at < length trains.now }
-    requires sound { trains_fault 0 trains.now ≡ None }
-    ensures is { (ss : List StepMeant) → slice_get (trips 1 trains.now ss) at ≡ Some (trip_of ss result) }
-    ensures fits { TripFits (steps_of trains.now) result }
-{
-    let mut first = 1;
-    let mut from = 0;
-    for i in 0..at {
-        let steps = trains[i].steps as usize;
-        first += steps + 1;
-        from += steps;
+impl<'a> Trips<'a> {
+    ghost use Rattle.trains.specs.Railway.{trips};
+    ghost use Rattle.railway.specs.Sound.{Sound};
+    ghost use Rattle.railway.specs.Trips.{trips_left};
+
+    /// The trips of these trains, whose steps stand in one list, train by train.
+    pub fn over(trains: &'a [Train], steps: &'a [Step]) -> Trips<'a>
+        requires { Sound trains.now steps.now }
+        ensures { trips_left result ≡ trips 1 trains.now steps.now }
+    {
+        Trips {
+            trains,
+            steps,
+            first: 1,
+        }
     }
-    let Train {
-        kind,
-        entry,
-        due,
-        steps,
-    } = trains[at];
-    Trip {
-        kind,
-        entry,
-        due,
-        first,
-        from,
-        steps: steps as usize,
+}
+
+impl<'a> Iterator for Trips<'a> {
+    type Item = Trip<'a>;
+
+    ghost use Rattle.std.specs.Iterator.{YieldsFirstBy, item_count};
+    ghost use Rattle.railway.specs.Trips.{trip_of, trips_left};
+
+    ghost next_gives = { YieldsFirstBy trip_of trips_left };
+
+    ghost remaining = { item_count trips_left };
+
+    fn next(&mut self) -> Option<Trip<'a>> {
+        let (train, trains) = self.trains.split_first()?;
+        let (own, steps) = self.steps.split_at(usize::from(train.steps));
+        let trip = Trip {
+            kind: train.kind,
+            entry: train.entry,
+            due: train.due,
+            first: self.first,
+            steps: own,
+        };
+        *self = Trips {
+            trains,
+            steps,
+            first: self.first + u16::from(train.steps) + 1,
+        };
+        Some(trip)
     }
 }

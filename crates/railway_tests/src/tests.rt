@@ -2,7 +2,7 @@ use graph::{Arc, CaseSource};
 use railway::{Railway, check_railway};
 use std::process::Abort;
 use std::test::Fail;
-use trains::{Kind, RailwayFault, Step, Train};
+use trains::{Kind, RailwayFault, Step, Train, UnknownKind};
 
 fn train(kind: Kind, entry: u32, due: u32, steps: u8) -> Train {
     Train {
@@ -187,8 +187,8 @@ fn limits(rt: HostRuntime) {
 /// Thirteen steps, each on a section of its own.
 fn apart() -> [Step; 13] {
     let mut steps = [step(0, 60); 13];
-    for at in 0..13 {
-        steps[at].section = at as u8;
+    for (at, step) in steps.iter_mut().enumerate() {
+        step.section = at as u8;
     }
     steps
 }
@@ -227,11 +227,15 @@ fn pairs_are_counted(rt: HostRuntime) {
     steps[17].section = 3;
     assert_eq!(rt; check_railway(&trains, &steps), Ok(()));
     assert_eq!(rt; Railway::over(&trains, &steps).pair_count(), 60);
+    let read = Railway::read(&trains, &steps).map(|railway| railway.pair_count());
+    assert_eq!(rt; read, Ok(60));
     steps[17].section = 2;
     assert_eq!(rt;
         check_railway(&trains, &steps),
         Err(RailwayFault::TooManyPairs)
     );
+    let told = Railway::read(&trains, &steps).map(|railway| railway.end());
+    assert_eq!(rt; told, Err(RailwayFault::TooManyPairs));
     let refused = Railway::over(&trains, &steps);
     assert_eq!(rt; refused.end(), 1);
     assert_eq!(rt; refused.fixed_count(), 0);
@@ -242,11 +246,36 @@ fn pairs_are_counted(rt: HostRuntime) {
 #[test]
 fn kinds_are_numbered(rt: HostRuntime) -> Result<(), Fail> {
     for number in 0..5u8 {
-        let kind = Kind::of_number(number).ok_or("a kind is missing")?;
-        assert_eq!(rt; kind.number(), number);
+        let kind = Kind::try_from(number)?;
+        assert_eq!(rt; u8::from(kind), number);
     }
-    assert_eq!(rt; Kind::of_number(5), None);
+    assert_eq!(rt; Kind::try_from(5), Err(UnknownKind));
     assert_eq!(rt; Kind::HotMetal.separation(Kind::HotMetal), 240);
     assert_eq!(rt; Kind::LightEngine.separation(Kind::EmptyOre), 50);
+    Ok(())
+}
+
+/// The words of the kinds, and their names with a blank.
+#[test]
+fn kinds_are_named(rt: HostRuntime) -> Result<(), Fail> {
+    let words = [
+        "loaded-ore",
+        "empty-ore",
+        "hot-metal",
+        "staff",
+        "light-engine",
+    ];
+    let names = [
+        "loaded ore",
+        "empty ore",
+        "hot metal",
+        "staff",
+        "light engine",
+    ];
+    for (word, name) in words.iter().zip(names) {
+        let kind = word.parse::<Kind>()?;
+        assert_eq!(rt; kind.to_string(rt.alloc())?.as_str(), name);
+    }
+    assert_eq!(rt; "loaded ore".parse::<Kind>(), Err(UnknownKind));
     Ok(())
 }

@@ -53,11 +53,3 @@ module _ {S V B : Type 0} (means : S → Case) (rank : V → ℤ) (r : Ranking) 
       let m₄ : TimesLeft rank (means s) (last_shown (means s) r (meaning b) None (reached (means s) r (meaning b) xs) (x ∷ [])) mid times' =
       subst (λ (u : Search.Planner). TimesLeft rank (means s) (last_shown (means s) r (meaning b) None u (x ∷ [])) mid times') h.state m₃ in
       subst (λ (ys : List Call). TimesLeft rank (means s) (last_shown (means s) r (meaning b) None (opened (means s)) ys) times times') (sym (map_more (call_of n) qs i d l)) (left_more rank (means s) r (meaning b) xs x times mid times' o m₄)
-
-  pub left_all : (qs ps : List Request) (n : ℕ) (u : S) (a : B) (times times' : List V) → ps ≡ qs → u ≡ s → a ≡ b
-      → TimesLeft rank (means u) (last_shown (means u) r (meaning a) None (opened (means u)) (calls_of n ps)) times times'
-      → TimesLeft rank (means s) (last_shown (means s) r (meaning b) None (opened (means s)) (calls_of n qs)) times times'
-  left_all qs ps n u a times times' f e g h =
-      subst (λ (v : B). TimesLeft rank (means s) (last_shown (means s) r (meaning v) None (opened (means s)) (calls_of n qs)) times times') g
-      (subst (λ (v : S). TimesLeft rank (means v) (last_shown (means v) r (meaning a) None (opened (means v)) (calls_of n qs)) times times') e
-      (subst (λ (ks : List Request). TimesLeft rank (means u) (last_shown (means u) r (meaning a) None (opened (means u)) (calls_of n ks)) times times') f h))

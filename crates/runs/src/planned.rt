@@ -6,7 +6,7 @@ use bounds::LongestPath;
 use measures::Seconds;
 use planner::{Planner, Searched};
 use search::PlanMessageFault;
-use sources::{Message, check_message};
+use sources::Message;
 
 /// Checks a message, opens it in seconds with the longest path on a planner of its own, and answers as one search does,
 /// times included.
@@ -17,7 +17,6 @@ pub fn plan_message(
 ) -> Result<Searched, PlanMessageFault>
     ensures { MessagePlanned in_seconds.rank in_seconds.ranking bytes.now budget times.old times.new result }
 {
-    check_message(bytes)?;
-    let mut planner = Planner::open(Message::over(bytes), LongestPath);
+    let mut planner = Planner::open(Message::read(bytes)?, LongestPath);
     Ok(planner.search(budget, times)?)
 }

@@ -29,16 +29,13 @@ fn make<S: CaseSource + Copy, V: TimeMeasure, B: Bound>(
     request: Request,
     times: &mut [V],
 ) -> Result<(), PlannerFault>
-    ensures left { TimesLeft V.TimeMeasure.rank (S.CaseSource.means planner.old.source).case (last_shown (S.CaseSource.means planner.old.source).case V.TimeMeasure.ranking (B.Bound.meaning planner.old.bound) None (view (λ s. (S.CaseSource.means s).case) V.TimeMeasure.rank planner.old) (call_of (length times.old) request ∷ [])) times.old times.new }
-    ensures made { Made (λ s. (S.CaseSource.means s).case) V.TimeMeasure.rank V.TimeMeasure.ranking B.Bound.meaning planner.old planner.new (call_of (length times.old) request) (planner_told result) }
+    ensures left { TimesLeft V.TimeMeasure.rank (S.CaseSource.means planner.old.source) (last_shown (S.CaseSource.means planner.old.source) V.TimeMeasure.ranking (B.Bound.meaning planner.old.bound) None (view S.CaseSource.means V.TimeMeasure.rank planner.old) (call_of (length times.old) request ∷ [])) times.old times.new }
+    ensures made { Made S.CaseSource.means V.TimeMeasure.rank V.TimeMeasure.ranking B.Bound.meaning planner.old planner.new (call_of (length times.old) request) (planner_told result) }
 {
     match request {
         Request::Hold(pair, arm) => planner.hold(pair, arm),
         Request::Release(pair) => planner.release(pair),
-        Request::Search(budget) => {
-            planner.search(budget, times)?;
-            Ok(())
-        }
+        Request::Search(budget) => planner.search(budget, times).map(|_| ()),
     }
 }
 
@@ -50,9 +47,9 @@ pub fn replay<S: CaseSource + Copy, V: TimeMeasure, B: Bound>(
     requests: &[Request],
     times: &mut [V],
 ) -> Planner<S, V, B>
-    ensures state { view (λ s. (S.CaseSource.means s).case) V.TimeMeasure.rank result ≡ reached (S.CaseSource.means source).case V.TimeMeasure.ranking (B.Bound.meaning bound) (calls_of (length times.old) requests.now) }
-    ensures left { TimesLeft V.TimeMeasure.rank (S.CaseSource.means source).case (last_shown (S.CaseSource.means source).case V.TimeMeasure.ranking (B.Bound.meaning bound) None (opened (S.CaseSource.means source).case) (calls_of (length times.old) requests.now)) times.old times.new }
-    ensures lawful { Lawful (S.CaseSource.means source).case V.TimeMeasure.ranking (B.Bound.meaning bound) (calls_of (length times.old) requests.now) (view (λ s. (S.CaseSource.means s).case) V.TimeMeasure.rank result) }
+    ensures state { view S.CaseSource.means V.TimeMeasure.rank result ≡ reached (S.CaseSource.means source) V.TimeMeasure.ranking (B.Bound.meaning bound) (calls_of (length times.old) requests.now) }
+    ensures left { TimesLeft V.TimeMeasure.rank (S.CaseSource.means source) (last_shown (S.CaseSource.means source) V.TimeMeasure.ranking (B.Bound.meaning bound) None (opened (S.CaseSource.means source)) (calls_of (length times.old) requests.now)) times.old times.new }
+    ensures lawful { Lawful (S.CaseSource.means source) V.TimeMeasure.ranking (B.Bound.meaning bound) (calls_of (length times.old) requests.now) (view S.CaseSource.means V.TimeMeasure.rank result) }
 {
     let mut planner = Planner::open(source, bound);
     for request in requests {

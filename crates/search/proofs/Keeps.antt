@@ -1,18 +1,18 @@
 -- What a planner keeps while it searches.
-use Rattle.std.proofs.Common.{◌≡◌, ℕ, zero, suc, ◌+◌, ◌<◌, ◌≤◌, Bool, true, false, ltb, ◌⊎◌, List, [], ◌∷◌, ◌++◌, length, get_or, ℤ, pos, ◌≤ℤ◌, Some, None, Option, sym, refl, ◌∙◌, subst, inl, inr, arith}
+use Rattle.std.proofs.Common.{◌≡◌, ℕ, zero, suc, ◌<◌, ◌≤◌, Bool, true, false, ltb, ◌⊎◌, List, [], ◌∷◌, ◌++◌, length, get_or, ℤ, pos, ◌≤ℤ◌, Some, None, Option, sym, refl, ◌∙◌, subst, inl, inr, arith}
 use lib.Signed.{lt_z}
 use Rattle.std.specs.List.{AllByRecursion}
-use Rattle.std.proofs.ByRecursion.{All-append, All-get_or, All-push}
-use Rattle.std.proofs.lemmas.List.{length_push}
+use Rattle.std.proofs.ByRecursion.{All-append, All-get_or}
 use Rattle.std.proofs.lemmas.Int.{ints, clamps}
 use Rattle.std.proofs.lemmas.Bool.{cond_both, ltb-true, ltb-false, false≢true}
-use Rattle.graph.specs.Graph.{Case, Ranking, Timetable, Selection, IsSelection, Keeps, KeepsCase, KeepsArms, selected, arcs, delay}
+use Rattle.graph.specs.Graph.{Case, Ranking, IsRanking, Within, Timetable, Selection, IsSelection, Keeps, KeepsCase, KeepsArms, selected, arcs, delay}
 use Rattle.graph.specs.Times.{AreLeast, Least, least_times, time_of}
-use Rattle.graph.proofs.Raise.{no_cycle}
-use Rattle.bounds.specs.Bounds.{Meaning, AtMost, smaller}
+use Rattle.graph.proofs.Raise.{no_cycle, worked_out}
+use Rattle.bounds.specs.Bounds.{Meaning, LowerBound, AtMost, smaller}
 use Rattle.search.specs.Search.{Node, Plan, Planner, fresh, free, joined, after, waiting, cuts, better, moved_to, settled, raised_to, plan_delay, bound_at, examined, walked, least_over, shown, searched}
 use Rattle.search.specs.Sound.{PlanSound, OnShow, Unbeaten, Sound}
-use Rattle.search.proofs.Nodes.{Any, AnyAfter, Armed, Proper, after_covers, still_waits, other_waits, size, size_is, room, room_none, room_some, waiting_armed, any_weaker, room_after_lem, room_branch, room_after, proper_after, joined_none, length_joined, joined_small, joined_full, joined_held, branched}
+use Rattle.search.proofs.Nodes.{Any, AnyAfter, Armed, after_covers, still_waits, other_waits, size_is, waiting_armed, any_weaker, joined_none, length_joined, joined_small, joined_full, joined_held, branched}
+use Rattle.search.proofs.Placed.{Placed, fresh_placed, onward, downward, shown_placed, whole}
 
 -- the plan, a cut and a full node
 pub unbeaten_by_cut : (o : Option ℤ) (p : Option Plan) (d : ℕ) → cuts o p ≡ true → AtMost o d → Unbeaten p d
@@ -64,18 +64,12 @@ abbrev pub Cover : Case → Ranking → Bool → Option Plan → Selection → N
 Cover c r true p hs x t = Unbeaten p (delay c t)
 Cover c r false p hs x t = Unbeaten p (delay c t) ⊎ Any (λ y. KeepsArms r c (joined hs y) t) (x ∷ waiting x)
 
-abbrev pub left : Bool → ℕ → ℕ
-left true n = 0
-left false n = n
-
 pub record Inv (c : Case) (r : Ranking) (w : Planner) : Type 0 where
   pub selection : IsSelection c w.holds
-  pub armed : Armed w.next
-  pub short : length w.next ≤ free w.holds
+  pub placed : Placed w
   pub plan : OnShow c r w.holds w.plan
   pub lower : (t : Timetable) → KeepsCase r c t → KeepsArms r c w.holds t → w.lower ≤ℤ pos (delay c t)
   pub cover : (t : Timetable) → KeepsCase r c t → KeepsArms r c w.holds t → Cover c r w.finished w.plan w.holds w.next t
-  pub few : w.count + left w.finished (room (free w.holds) w.next) ≤ size (free w.holds)
 
 pub joined_selection : (c : Case) (hs : Selection) (x : Node) → IsSelection c hs → Armed x → IsSelection c (joined hs x)
 joined_selection c hs x s m = record { one_each = length_joined hs x ∙ s.one_each; arms = joined_small hs x s.arms m }
@@ -84,35 +78,29 @@ pub fresh_keeps : (c : Case) (r : Ranking) (hs : Selection) → IsSelection c hs
 fresh_keeps c r hs s =
     record {
       selection = s;
-      armed = tt;
-      short = omega arith;
+      placed = fresh_placed hs;
       plan = tt;
       lower = λ t k a. omega (arith, ints);
       cover = λ t k a. inr (inl (subst (λ s'. KeepsArms r c s' t) (sym (joined_none hs)) a));
-      few = omega (arith, room_none (free hs));
     }
 
 -- a Planner that has examined a node
-pub moved_keeps : (c : Case) (r : Ranking) (w : Planner) (p : Option Plan) (o : Option Node) → Inv c r w → Proper (free w.holds) o → OnShow c r w.holds p → ((t : Timetable) → KeepsCase r c t → KeepsArms r c w.holds t → Unbeaten p (delay c t) ⊎ AnyAfter (λ y. KeepsArms r c (joined w.holds y) t) o) → w.count + 1 + room_after (free w.holds) o ≤ size (free w.holds) → Inv c r (moved_to w p o)
-moved_keeps c r w p None i m s f l =
+pub moved_keeps : (c : Case) (r : Ranking) (w : Planner) (p : Option Plan) (o : Option Node) → Inv c r w → Placed (moved_to w p o) → OnShow c r w.holds p → ((t : Timetable) → KeepsCase r c t → KeepsArms r c w.holds t → Unbeaten p (delay c t) ⊎ AnyAfter (λ y. KeepsArms r c (joined w.holds y) t) o) → Inv c r (moved_to w p o)
+moved_keeps c r w p None i m s f =
     record {
       selection = i.selection;
-      armed = tt;
-      short = omega arith;
+      placed = m;
       plan = s;
       lower = i.lower;
       cover = λ t k a. elim (f t k a) [ inl h ↦ h | inr h ↦ absurd h ];
-      few = l;
     }
-moved_keeps c r w p (Some x) i m s f l =
+moved_keeps c r w p (Some x) i m s f =
     record {
       selection = i.selection;
-      armed = m.0;
-      short = m.1;
+      placed = m;
       plan = s;
       lower = i.lower;
       cover = f;
-      few = l;
     }
 
 module _ (c : Case) (r : Ranking) where
@@ -139,49 +127,50 @@ module _ (c : Case) (r : Ranking) where
       let h : get_or ts c.end 0 ≤ t c.end = a.1.least t z k c.end (omega arith) in
       cond_both (lt_z (pos (get_or ts c.end 0)) p.delay) (Some (record { arms = s; delay = pos (get_or ts c.end 0) })) (Some p) (λ q. Unbeaten q (delay c t)) (λ e. omega (arith, ints, h)) (λ e. grind (arith, ints, h))
 
-module _ (c : Case) (r : Ranking) (m : Meaning) (bounded : (s : Selection) → IsSelection c s → (t : Timetable) → KeepsCase r c t → KeepsArms r c s t → AtMost (m c s r) (delay c t)) (worked : (s : Selection) → AreLeast r c s (least_times r c s)) where
+-- no answer of a lower bound is too large, and least times are worked out
+pub record Bounding (c : Case) (r : Ranking) (m : Meaning) : Type 0 where
+  pub bounded : (s : Selection) → IsSelection c s → (t : Timetable) → KeepsCase r c t → KeepsArms r c s t → AtMost (m c s r) (delay c t)
+  pub worked : (s : Selection) → AreLeast r c s (least_times r c s)
+
+pub bounding : (c : Case) (r : Ranking) (m : Meaning) → Within c → IsRanking r → LowerBound m → Bounding c r m
+bounding c r m within ranked lower = record { bounded = λ s i. lower c s r within i ranked; worked = λ s. worked_out r c s within }
+
+module _ (c : Case) (r : Ranking) (m : Meaning) (given : Bounding c r m) where
   -- while not finished
   open_cover : (w : Planner) → w.finished ≡ false → Inv c r w → (t : Timetable) → KeepsCase r c t → KeepsArms r c w.holds t → Unbeaten w.plan (delay c t) ⊎ Any (λ y. KeepsArms r c (joined w.holds y) t) (w.next ∷ waiting w.next)
   open_cover w e i t k a = subst (λ f. Cover c r f w.plan w.holds w.next t) e (i.cover t k a)
 
-  open_few : (w : Planner) → w.finished ≡ false → Inv c r w → w.count + room (free w.holds) w.next ≤ size (free w.holds)
-  open_few w e i = subst (λ f. w.count + left f (room (free w.holds) w.next) ≤ size (free w.holds)) e i.few
-
   cut_keeps : (w : Planner) → w.finished ≡ false → Inv c r w → cuts (bound_at c r m w.holds w.next) w.plan ≡ true → Inv c r (moved_to w w.plan (after w.next))
   cut_keeps w e i b =
-      moved_keeps c r w w.plan (after w.next) i (proper_after (free w.holds) w.next i.armed i.short) i.plan
+      moved_keeps c r w w.plan (after w.next) i (onward w w.plan e i.placed) i.plan
       (λ t k a.
       elim (open_cover w e i t k a) [
         | inl u ↦ inl u
-        | inr (inl h) ↦ inl (unbeaten_by_cut (bound_at c r m w.holds w.next) w.plan (delay c t) b (bounded (joined w.holds w.next) (joined_selection c w.holds w.next i.selection i.armed) t k h))
+        | inr (inl h) ↦ inl (unbeaten_by_cut (bound_at c r m w.holds w.next) w.plan (delay c t) b (given.bounded (joined w.holds w.next) (joined_selection c w.holds w.next i.selection i.placed.armed) t k h))
         | inr (inr h) ↦ inr (after_covers w.next (λ y. KeepsArms r c (joined w.holds y) t) h)
       ])
-      (omega (arith, open_few w e i, room_after_lem (free w.holds) w.next i.short))
 
   branch_keeps : (w : Planner) → w.finished ≡ false → Inv c r w → length w.next < free w.holds → Inv c r (moved_to w w.plan (Some (w.next ++ (1 ∷ []))))
   branch_keeps w e i l =
       moved_keeps c r w w.plan (Some (w.next ++ (1 ∷ []))) i
-      (All-push (λ a. (a ≡ 1) ⊎ (a ≡ 2)) w.next 1 i.armed (inl refl), omega (arith, length_push w.next 1))
-      i.plan
+      (downward w e i.placed l) i.plan
       (λ t k a.
       elim (open_cover w e i t k a) [
         | inl u ↦ inl u
         | inr (inl h) ↦ inr (elim (branched (Keeps r t) c.pairs w.holds w.next i.selection.one_each l k.keeps_arm h) [ inl g ↦ inl g | inr g ↦ inr (other_waits w.next (λ y. KeepsArms r c (joined w.holds y) t) g) ])
         | inr (inr h) ↦ inr (inr (still_waits w.next (λ y. KeepsArms r c (joined w.holds y) t) h))
       ])
-      (omega (arith, open_few w e i, room_branch (free w.holds) w.next l))
 
   full_keeps : (w : Planner) → w.finished ≡ false → Inv c r w → free w.holds ≤ length w.next → Inv c r (moved_to w (better (joined w.holds w.next) c.end (least_times r c (joined w.holds w.next)) w.plan) (after w.next))
   full_keeps w e i l =
-      moved_keeps c r w (better (joined w.holds w.next) c.end (least_times r c (joined w.holds w.next)) w.plan) (after w.next) i (proper_after (free w.holds) w.next i.armed i.short)
-      (better_shown c r w.holds w.next (least_times r c (joined w.holds w.next)) w.plan i.selection i.armed l (worked (joined w.holds w.next)) i.plan)
+      moved_keeps c r w (better (joined w.holds w.next) c.end (least_times r c (joined w.holds w.next)) w.plan) (after w.next) i (onward w (better (joined w.holds w.next) c.end (least_times r c (joined w.holds w.next)) w.plan) e i.placed)
+      (better_shown c r w.holds w.next (least_times r c (joined w.holds w.next)) w.plan i.selection i.placed.armed l (given.worked (joined w.holds w.next)) i.plan)
       (λ t k a.
       elim (open_cover w e i t k a) [
         | inl u ↦ inl (better_keeps (joined w.holds w.next) c.end (least_times r c (joined w.holds w.next)) w.plan (delay c t) u)
-        | inr (inl h) ↦ inl (better_beats c r (joined w.holds w.next) (least_times r c (joined w.holds w.next)) w.plan t (worked (joined w.holds w.next)) k.starts (All-append (Keeps r t) c.fixed (selected (joined w.holds w.next) c.pairs) k.keeps_fixed h))
+        | inr (inl h) ↦ inl (better_beats c r (joined w.holds w.next) (least_times r c (joined w.holds w.next)) w.plan t (given.worked (joined w.holds w.next)) k.starts (All-append (Keeps r t) c.fixed (selected (joined w.holds w.next) c.pairs) k.keeps_fixed h))
         | inr (inr h) ↦ inr (after_covers w.next (λ y. KeepsArms r c (joined w.holds y) t) h)
       ])
-      (omega (arith, open_few w e i, room_after_lem (free w.holds) w.next i.short))
 
   pub examined_keeps : (w : Planner) → w.finished ≡ false → Inv c r w → Inv c r (examined c r m w)
   examined_keeps w e i =
@@ -201,8 +190,8 @@ module _ (c : Case) (r : Ranking) (m : Meaning) (bounded : (s : Selection) → I
         | inl u ↦ least_start c r m w.holds (delay c t) (w.next ∷ waiting w.next) (plan_delay w.plan) (plan_delay_sound w.plan (delay c t) u)
         | inr h ↦ least_any c r m w.holds (delay c t) (w.next ∷ waiting w.next) (plan_delay w.plan)
             (any_weaker Armed (λ y. KeepsArms r c (joined w.holds y) t) (λ y. AtMost (bound_at c r m w.holds y) (delay c t))
-            (λ y g l. bounded (joined w.holds y) (joined_selection c w.holds y i.selection g) t k l)
-            (w.next ∷ waiting w.next) (i.armed, waiting_armed w.next i.armed) h)
+            (λ y g l. given.bounded (joined w.holds y) (joined_selection c w.holds y i.selection g) t k l)
+            (w.next ∷ waiting w.next) (i.placed.armed, waiting_armed w.next i.placed.armed) h)
       ]
 
   shut_cover : (w : Planner) → w.finished ≡ true → Inv c r w → (t : Timetable) → KeepsCase r c t → KeepsArms r c w.holds t → Unbeaten w.plan (delay c t)
@@ -212,14 +201,12 @@ module _ (c : Case) (r : Ranking) (m : Meaning) (bounded : (s : Selection) → I
   shown_keeps w i =
       record {
         selection = i.selection;
-        armed = i.armed;
-        short = i.short;
+        placed = shown_placed c r m w i.placed;
         plan = i.plan;
         lower = λ t k a. cond_both w.finished (settled w.plan w.lower) (raised_to (least_over c r m w.holds (w.next ∷ waiting w.next) (plan_delay w.plan)) w.lower) (λ z. z ≤ℤ pos (delay c t))
             (λ e. settled_sound w.plan w.lower (delay c t) (shut_cover w e i t k a))
             (λ e. raised_sound (least_over c r m w.holds (w.next ∷ waiting w.next) (plan_delay w.plan)) w.lower (delay c t) (open_lower w e i t k a) (i.lower t k a));
         cover = i.cover;
-        few = i.few;
       }
 
   pub searched_keeps : (n : ℕ) (w : Planner) → Inv c r w → Inv c r (searched c r m n w)
@@ -232,25 +219,6 @@ sound_by_keeping c r w i =
       plan = i.plan;
       lower = i.lower;
       best = λ e t k a. subst (λ f. Cover c r f w.plan w.holds w.next t) e (i.cover t k a);
-      few = omega (arith, size_is (free w.holds), i.few);
-      whole = λ e. (elim w.finished as (λ f. w.count + left f (room (free w.holds) w.next) ≤ size (free w.holds) → f ≡ true)
-          [ true ↦ λ l. refl | false ↦ λ l. absurd (omega (arith, size_is (free w.holds), room_some (free w.holds) w.next i.short)) ]) i.few;
+      few = omega (arith, size_is (free w.holds), i.placed.few);
+      whole = λ e. whole w i.placed (omega arith);
     }
-
--- the count does not fall
-moved_counts : (w : Planner) (p : Option Plan) (o : Option Node) → w.count ≤ (moved_to w p o).count
-moved_counts w p None = omega arith
-moved_counts w p (Some x) = omega arith
-
-module _ (c : Case) (r : Ranking) (m : Meaning) where
-  examined_counts : (w : Planner) → w.count ≤ (examined c r m w).count
-  examined_counts w =
-      cond_both (cuts (bound_at c r m w.holds w.next) w.plan) _ _ (λ (v : Planner). w.count ≤ v.count)
-      (λ b. moved_counts w w.plan (after w.next))
-      (λ b. cond_both (ltb (length w.next) (free w.holds)) _ _ (λ (v : Planner). w.count ≤ v.count)
-      (λ l. moved_counts w w.plan (Some (w.next ++ (1 ∷ []))))
-      (λ l. moved_counts w (better (joined w.holds w.next) c.end (least_times r c (joined w.holds w.next)) w.plan) (after w.next)))
-
-  pub walked_counts : (n : ℕ) (w : Planner) → w.count ≤ (walked c r m n w).count
-  walked_counts zero w = omega arith
-  walked_counts (suc n) w = cond_both w.finished w (walked c r m n (examined c r m w)) (λ v. w.count ≤ v.count) (λ e. omega arith) (λ e. omega (arith, examined_counts w, walked_counts n (examined c r m w)))

@@ -1,6 +1,6 @@
 -- The laws over runs, put together.
-use Rattle.std.proofs.Common.{◌≡◌, ℕ, zero, suc, ◌<◌, cond, eqb, ◌≢◌, List, [], ◌∷◌, length, get_or, set, replicate, Some, None, Option, sym, refl, ap, ◌∙◌, subst, arith, get_or-set_other, get_or-set_same}
-use Rattle.std.proofs.lemmas.List.{length-set, length-replicate}
+use Rattle.std.proofs.Common.{◌≡◌, ℕ, ◌<◌, cond, eqb, ◌≢◌, List, [], ◌∷◌, length, get_or, set, Some, None, Option, sym, ap, ◌∙◌, subst, arith, get_or-set_other, get_or-set_same}
+use Rattle.std.proofs.lemmas.List.{length-set, length-replicate, get_or-replicate}
 use Rattle.std.proofs.lemmas.Bool.{cond_both, eqb-true, eqb-false}
 use Rattle.graph.specs.Faults.{Fault}
 use Rattle.graph.specs.Graph.{Case, Ranking, IsRanking, Within, Selection}
@@ -40,13 +40,8 @@ module _ (c : Case) (r : Ranking) (m : Meaning) where
   held_all i b w [] h = h
   held_all i b w (x ∷ xs) h = held_all i (unless_refused b (held_taken i b x) (refusal c w x)) (called c r m w x) xs (held_unless i b (held_taken i b x) w (taken c r m w x) (refusal c w x) h (held_taken_lem i b w x h))
 
-  none_held : (n i : ℕ) → ◌≡◌ {A = ℕ} (get_or (replicate n 0) i 0) 0
-  none_held zero i = refl
-  none_held (suc n) zero = refl
-  none_held (suc n) (suc i) = none_held n i
-
   held_opened : (i : ℕ) → i < length c.pairs → Held i 0 (opened c)
-  held_opened i l = record { there = omega (arith, length-replicate {A = ℕ} (length c.pairs) 0); arm = none_held (length c.pairs) i }
+  held_opened i l = record { there = omega (arith, length-replicate {A = ℕ} (length c.pairs) 0); arm = get_or-replicate (length c.pairs) i 0 0 l }
 
   pub goes : (k : ℕ) (w : Planner) → GoesOn w (searched c r m k w) k
   goes k w = record { whole_budget = walk_laws.goes_on c r m k w; tight = walk_laws.tight c r m k w }

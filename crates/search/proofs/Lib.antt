@@ -1,5 +1,7 @@
 pub mod Nodes
+pub mod Placed
 pub mod Keeps
+pub mod Runs
 pub mod Calls
 pub mod Progress
 pub mod Walks

@@ -5,6 +5,7 @@ use Rattle.std.proofs.ByRecursion.{All-append, All-map, All-weaker}
 use Rattle.std.proofs.lemmas.Bool.{cond_both, eqb-true, eqb-false}
 use Rattle.graph.specs.Graph.{Arc, Pair, Selection, chosen, selected}
 use Rattle.search.specs.Search.{Node, free, joined, turned, after, waiting}
+use Rattle.search.specs.Room.{size, room, room_after}
 
 -- some node of the list
 abbrev pub Any : (Node → Type 0) → List Node → Type 0
@@ -57,11 +58,7 @@ pub other_waits : (x : Node) (P : Node → Type 0) → P (x ++ (2 ∷ [])) → A
 other_waits [] P h = inl h
 other_waits (a ∷ x) P h = waits_more P a (waiting (x ++ (1 ∷ []))) (eqb a 1) (other_waits x (λ y. P (a ∷ y)) h)
 
--- the nodes of a full tree with q levels of branching
-pub size : ℕ → ℕ
-size zero = 1
-size (suc q) = size q + size q + 1
-
+-- how many nodes are left
 pub size_is : (q : ℕ) → size q ≡ 2 ^ (q + 1) - 1
 unfolding size
 size_is zero = refl
@@ -70,12 +67,6 @@ size_is (suc q) =
     let e : suc q + 1 ≡ suc (q + 1) = omega arith in
     let p : 0 < 2 ^ (q + 1) = pow_pos (q + 1) in
     rw e (omega arith)
-
--- the nodes from x on, in order of a depth-first walk
-pub room : ℕ → Node → ℕ
-room q [] = size q
-room zero (a ∷ x) = 0
-room (suc q) (a ∷ x) = cond (eqb a 1) (room q x + size q) (room q x)
 
 pub room_none : (q : ℕ) → room q [] ≡ size q
 unfolding room
@@ -91,10 +82,6 @@ unfolding room
 room_some q [] l = size_some q
 room_some zero (a ∷ x) l = absurd (omega arith)
 room_some (suc q) (a ∷ x) l = let h : 1 ≤ room q x = room_some q x (omega arith) in cond_both (eqb a 1) (room q x + size q) (room q x) (λ n. 1 ≤ n) (λ e. omega arith) (λ e. h)
-
-abbrev pub room_after : ℕ → Option Node → ℕ
-room_after q None = 0
-room_after q (Some y) = room q y
 
 room_turned : (q a : ℕ) (b : Bool) (x : Node) (o : Option Node) → room_after q o + 1 ≤ room q x → eqb a 1 ≡ b → room_after (suc q) (turned a o) + 1 ≤ cond b (room q x + size q) (room q x)
 unfolding room

@@ -1,23 +1,17 @@
 -- More of what a search does: its count, its plan, and two searches in a row.
-use Rattle.std.proofs.Common.{◌≡◌, ℕ, zero, suc, ◌+◌, ◌≤◌, true, false, cond, ltb, List, [], ◌∷◌, ◌++◌, length, get_or, ℤ, pos, ◌≤ℤ◌, Some, None, Option, sym, refl, ap, ◌∙◌, subst, zero-add, arith}
+use Rattle.std.proofs.Common.{◌≡◌, ℕ, zero, suc, ◌+◌, true, false, cond, ltb, List, [], ◌∷◌, ◌++◌, length, get_or, ℤ, pos, ◌≤ℤ◌, Some, None, Option, sym, refl, ap, ◌∙◌, subst, zero-add, arith}
 use lib.Signed.{lt_z}
 use Rattle.std.proofs.lemmas.Int.{ints, clamps}
-use Rattle.std.proofs.lemmas.Bool.{cond_both, cond-true, false≢true}
-use Rattle.graph.specs.Graph.{Case, Ranking, Within, Timetable, Selection, IsSelection, KeepsCase, KeepsArms, delay}
-use Rattle.graph.specs.Times.{AreLeast, least_times}
-use Rattle.graph.proofs.Raise.{worked_out}
-use Rattle.bounds.specs.Bounds.{Meaning, AtMost}
+use Rattle.std.proofs.lemmas.Bool.{cond_both, false≢true}
+use Rattle.graph.specs.Graph.{Case, Ranking, Selection}
+use Rattle.graph.specs.Times.{least_times}
+use Rattle.bounds.specs.Bounds.{Meaning}
 use Rattle.search.specs.Search.{Node, Plan, Planner, opened, free, joined, after, waiting, cuts, better, moved_to, settled, raised_to, plan_delay, bound_at, examined, walked, least_over, lower_after, shown, searched}
 use Rattle.search.specs.Sound.{Call, reached, NoWorse, Alike, MoreWalkLaws}
-use Rattle.search.proofs.Keeps.{Inv, walked_keeps, walked_counts}
+use Rattle.search.proofs.Keeps.{Inv, Bounding, bounding, walked_keeps}
 use Rattle.search.proofs.Calls.{all_keep, opened_keeps}
-use Rattle.search.proofs.Progress.{walked_holds}
-use Rattle.search.proofs.Walks.{examined_by, reached_by, below_settled, walked_lower, searched_tight, shown_rises}
-
--- no more than the budget
-moved_one : (w : Planner) (p : Option Plan) (o : Option Node) → (moved_to w p o).count ≤ w.count + 1
-moved_one w p None = omega arith
-moved_one w p (Some x) = omega arith
+use Rattle.search.proofs.Progress.{walked_holds, walked_done, walked_counts, walked_within}
+use Rattle.search.proofs.Walks.{reached_by, below_settled, walked_lower, searched_tight, shown_rises}
 
 -- a plan that is no worse
 same_plan : (p : Option Plan) → NoWorse p p
@@ -60,14 +54,6 @@ raised_grows None x y h = h
 raised_grows (Some z) x y h = omega (arith, ints, clamps)
 
 module _ (c : Case) (r : Ranking) (m : Meaning) where
-  examined_one : (w : Planner) → (examined c r m w).count ≤ w.count + 1
-  examined_one w = examined_by c r m (λ v. v.count ≤ w.count + 1) w (moved_one w)
-
-  walked_within : (k : ℕ) (w : Planner) → (walked c r m k w).count ≤ w.count + k
-  walked_within zero w = omega arith
-  walked_within (suc k) w =
-      cond_both w.finished w (walked c r m k (examined c r m w)) (λ (v : Planner). v.count ≤ w.count + suc k) (λ e. omega arith) (λ e. omega (arith, examined_one w, walked_within k (examined c r m w)))
-
   examined_no_worse : (w : Planner) → NoWorse w.plan (examined c r m w).plan
   examined_no_worse w =
       cond_both (cuts (bound_at c r m w.holds w.next) w.plan) _ _ (λ (v : Planner). NoWorse w.plan v.plan)
@@ -84,17 +70,13 @@ module _ (c : Case) (r : Ranking) (m : Meaning) where
       (λ e. then_no_worse w.plan (examined c r m w).plan (walked c r m k (examined c r m w)).plan (examined_no_worse w) (walked_no_worse k (examined c r m w)))
 
   -- two walks in a row
-  walked_done : (k : ℕ) (w : Planner) → w.finished ≡ true → walked c r m k w ≡ w
-  walked_done zero w e = refl
-  walked_done (suc k) w e = cond-true w.finished w (walked c r m k (examined c r m w)) e
-
   walked_adds : (j k : ℕ) (w : Planner) → walked c r m k (walked c r m j w) ≡ walked c r m (j + k) w
   walked_adds zero k w = ap (λ n. walked c r m n w) (sym (zero-add k))
   walked_adds (suc j) k w =
       let e : suc j + k ≡ suc (j + k) = omega arith in
       let h : walked c r m k (walked c r m (suc j) w) ≡ walked c r m (suc (j + k)) w =
       (elim w.finished as (λ b. w.finished ≡ b → walked c r m k (cond b w (walked c r m j (examined c r m w))) ≡ cond b w (walked c r m (j + k) (examined c r m w)))
-      [ true ↦ λ f. walked_done k w f | false ↦ λ f. walked_adds j k (examined c r m w) ]) refl in
+      [ true ↦ λ f. walked_done c r m k w f | false ↦ λ f. walked_adds j k (examined c r m w) ]) refl in
       h ∙ ap (λ n. walked c r m n w) (sym e)
 
   examined_showing : (z : ℤ) (w : Planner) → examined c r m (showing z w) ≡ showing z (examined c r m w)
@@ -133,13 +115,13 @@ module _ (c : Case) (r : Ranking) (m : Meaning) where
   pub reached_tight : (xs : List Call) (p : Plan) → (reached c r m xs).finished ≡ true → (reached c r m xs).plan ≡ Some p → (reached c r m xs).lower ≡ p.delay
   reached_tight = reached_by c r m (λ w. (p : Plan) → w.finished ≡ true → w.plan ≡ Some p → w.lower ≡ p.delay) (λ hs p e q. absurd (false≢true e)) (λ k w h. searched_tight c r m k w)
 
-module _ (c : Case) (r : Ranking) (m : Meaning) (bounded : (s : Selection) → IsSelection c s → (t : Timetable) → KeepsCase r c t → KeepsArms r c s t → AtMost (m c s r) (delay c t)) (worked : (s : Selection) → AreLeast r c s (least_times r c s)) where
+module _ (c : Case) (r : Ranking) (m : Meaning) (given : Bounding c r m) where
   reached_keeps : (xs : List Call) → Inv c r (reached c r m xs)
-  reached_keeps xs = all_keep c r m bounded worked xs (opened c) (opened_keeps c r m bounded worked)
+  reached_keeps xs = all_keep c r m given xs (opened c) (opened_keeps c r m given)
 
   adds_bound : (j k : ℕ) (w : Planner) → Inv c r w → (searched c r m (j + k) w).lower ≤ℤ (searched c r m k (searched c r m j w)).lower
   adds_bound j k w i =
-      let h : w.lower ≤ℤ lower_after c r m (walked c r m j w) = subst (λ z. z ≤ℤ lower_after c r m (walked c r m j w)) (walked_lower c r m j w) (shown_rises c r m bounded worked (walked c r m j w) (walked_keeps c r m bounded worked j w i)) in
+      let h : w.lower ≤ℤ lower_after c r m (walked c r m j w) = subst (λ z. z ≤ℤ lower_after c r m (walked c r m j w)) (walked_lower c r m j w) (shown_rises c r m given (walked c r m j w) (walked_keeps c r m given j w i)) in
       let g : (walked c r m (j + k) w).lower ≤ℤ lower_after c r m (walked c r m j w) = subst (λ z. z ≤ℤ lower_after c r m (walked c r m j w)) (sym (walked_lower c r m (j + k) w)) h in
       subst (λ v. lower_after c r m (walked c r m (j + k) w) ≤ℤ lower_after c r m v) (sym (in_pieces c r m j k w)) (lower_grows c r m (lower_after c r m (walked c r m j w)) (walked c r m (j + k) w) g)
 
@@ -148,17 +130,14 @@ module _ (c : Case) (r : Ranking) (m : Meaning) (bounded : (s : Selection) → I
       let i : Inv c r (reached c r m xs) = reached_keeps xs in
       subst (λ o. (reached c r m xs).lower ≤ℤ settled o (reached c r m xs).lower) e (below_settled c r (reached c r m xs).holds (reached c r m xs).plan (reached c r m xs).lower i.plan i.lower)
 
-pub more_walk_laws_by : ((r : Ranking) (c : Case) (s : Selection) → Within c → AreLeast r c s (least_times r c s)) → MoreWalkLaws
-more_walk_laws_by worked =
+pub more_walk_laws : MoreWalkLaws
+more_walk_laws =
     record {
       within_budget = λ c r m k w. (walked_counts c r m k w, walked_within c r m k w);
       same_holds = walked_holds;
       no_worse = walked_no_worse;
       adds_up = searched_adds;
-      adds_up_bound = λ c r m within ranked lower xs j k. let b : (s : Selection) → IsSelection c s → (t : Timetable) → KeepsCase r c t → KeepsArms r c s t → AtMost (m c s r) (delay c t) = λ s i. lower c s r within i ranked in adds_bound c r m b (λ s. worked r c s within) j k (reached c r m xs) (reached_keeps c r m b (λ s. worked r c s within) xs);
-      below_plan = λ c r m within ranked lower xs p e. below c r m (λ s i. lower c s r within i ranked) (λ s. worked r c s within) xs p e;
+      adds_up_bound = λ c r m within ranked lower xs j k. let g = bounding c r m within ranked lower in adds_bound c r m g j k (reached c r m xs) (reached_keeps c r m g xs);
+      below_plan = λ c r m within ranked lower xs p e. below c r m (bounding c r m within ranked lower) xs p e;
       stays_tight = reached_tight;
     }
-
-pub more_walk_laws : MoreWalkLaws
-more_walk_laws = more_walk_laws_by worked_out

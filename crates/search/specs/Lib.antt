@@ -1,4 +1,5 @@
 pub mod Search
+pub mod Room
 pub mod Sound
 pub mod Examples
 pub mod Named

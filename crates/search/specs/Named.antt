@@ -1,6 +1,6 @@
 -- What each fault is in numbers. Assumes nothing.
-use Rattle.std.specs.Prelude.{Some, None, Ok, Err, Option, Result}
-use Rattle.graph.specs.Faults.{Fault}
+use Rattle.std.specs.Prelude.{Option, Result}
+use Rattle.graph.specs.Faults.{Fault, told_by}
 use Rattle.messages.specs.Named.{of_message}
 use Rattle.search.specs.declared.faults.PlannerFault.{PlannerFault}
 use Rattle.search.specs.declared.faults.PlannerFault.TheVariants.{Finished, Budget, Places, NoPair, NoArm, Held, NotHeld}
@@ -24,5 +24,4 @@ of_plan_message (carried.Planner f) = of_planner f
 
 -- the fault that a call answers, if it does
 abbrev pub planner_told : {A : Type 0} → Result A PlannerFault → Option Fault
-planner_told (Ok x) = None
-planner_told (Err f) = Some (of_planner f)
+planner_told = told_by of_planner

@@ -9,7 +9,6 @@ mod faults;
 mod laws;
 mod more_walk_laws;
 mod walk_laws;
-mod words;
 
 pub use examples::examples_hold;
 pub use faults::{PlanMessageFault, PlannerFault};

@@ -8,9 +8,9 @@ use Rattle.trains.proofs.Railways.{railway_within}
 use Rattle.trains.specs.declared.train.Train.{Train}
 use Rattle.trains.specs.declared.train.Step.{Step}
 
-module _ (ts us : List Train) (ss qs : List Step) (ms : List ℕ) (e : us ≡ ts) (f : qs ≡ ss) (h : ms ≡ message (railway_case us qs)) where
+module _ (ts : List Train) (ss : List Step) (ms : List ℕ) (h : ms ≡ message (railway_case ts ss)) where
   pub railed_taken : passes (message_fault ms) ≡ true
-  railed_taken = ap (λ (bs : List ℕ). passes (message_fault bs)) h ∙ ap passes (reads_back_law (railway_case us qs) (railway_within us qs)).accepted
+  railed_taken = ap (λ (bs : List ℕ). passes (message_fault bs)) h ∙ ap passes (reads_back_law (railway_case ts ss) (railway_within ts ss)).accepted
 
   pub railed_case : message_case ms ≡ railway_case ts ss
-  railed_case = ap message_case h ∙ ((reads_back_law (railway_case us qs) (railway_within us qs)).same ∙ (λ j. railway_case (e j) (f j)))
+  railed_case = ap message_case h ∙ (reads_back_law (railway_case ts ss) (railway_within ts ss)).same

@@ -19,7 +19,7 @@ size_of c = record { end = c.end; fixed = length c.fixed; pairs = length c.pairs
 -- what a choice of arms answers, and the table that it leaves: the arms given and then zeros; refused, the table as it was
 abbrev pub ArmsChosen : {X : Type 0} → Case → List ℕ → List ℕ → List ℕ → Result X ArmsFault → Type 0
 ArmsChosen c given before after (Ok x) = (length given ≤ length c.pairs) × AllByRecursion (λ a. a ≤ 2) given × (after ≡ given ++ replicate (60 - length given) 0)
-ArmsChosen c given before after (Err TooMany) = (length c.pairs < length given) × (after ≡ before)
+ArmsChosen c given before after (Err (TooMany n)) = (n ≡ length c.pairs) × (length c.pairs < length given) × (after ≡ before)
 ArmsChosen c given before after (Err (Arm k)) = (k < length given) × (2 < slice_index given k) × (after ≡ before)
 
 -- why a railway is refused: its fault, or memory is short

@@ -1,4 +1,4 @@
-ghost use Rattle.std.specs.Prelude.{◌≡◌, ◌+◌, IfOk, None, vec_len};
+ghost use Rattle.std.specs.Prelude.{◌≡◌, IfOk, None};
 ghost use Rattle.graph.specs.Graph.{selection_of};
 ghost use Rattle.graph.specs.Times.{least_times, TimesLaw};
 ghost use Rattle.bounds.specs.Told.{RankIs};
@@ -10,29 +10,18 @@ use graph::{CaseSource, TimeMeasure, least_times};
 use sources::{Message, write_message};
 use std::alloc::{AllocError, Global};
 
-/// So many values of rank 0.
-fn zeros<V: TimeMeasure>(heap: Global, count: usize) -> Result<Vec<V>, AllocError>
-    ensures { IfOk result (λ v. vec_len v ≡ count) }
-{
-    let mut values = Vec::new(heap);
-    for _at in 0..count {
-        values.push(V::zero())?;
-    }
-    Ok(values)
-}
-
 /// The least times of a selection of any source's case, one for each event, or none.
 pub(crate) fn times_of<S: CaseSource, V: TimeMeasure>(
     heap: Global,
     source: &S,
     arms: &[u8; 60],
 ) -> Result<Option<Vec<V>>, AllocError>
-    ensures found { IfOk result (λ o. TimesFound V.TimeMeasure.rank (least_times V.TimeMeasure.ranking (S.CaseSource.means source.now).case (selection_of (S.CaseSource.means source.now).case.pairs arms.now)) o) }
-    ensures law { TimesLaw V.TimeMeasure.ranking (S.CaseSource.means source.now).case (selection_of (S.CaseSource.means source.now).case.pairs arms.now) }
+    ensures found { IfOk result (λ o. TimesFound V.TimeMeasure.rank (least_times V.TimeMeasure.ranking (S.CaseSource.means source.now) (selection_of (S.CaseSource.means source.now).pairs arms.now)) o) }
+    ensures law { TimesLaw V.TimeMeasure.ranking (S.CaseSource.means source.now) (selection_of (S.CaseSource.means source.now).pairs arms.now) }
 {
-    let mut times = zeros::<V>(heap, source.end() + 1)?;
+    let mut times = vec![in heap; V::zero(); source.end() + 1]?;
     match least_times(source, arms, times.as_mut_slice()) {
-        Ok(found) => Ok(if found { Some(times) } else { None }),
+        Ok(found) => Ok(found.then_some(times)),
         Err(_) => unreachable(),
     }
 }
@@ -44,16 +33,16 @@ pub(crate) fn bound_of<S: CaseSource, V: TimeMeasure, B: Bound>(
     arms: &[u8; 60],
     bound: &B,
 ) -> Result<Option<V>, AllocError>
-    ensures { IfOk result (λ o. RankIs V.TimeMeasure.rank o (B.Bound.meaning bound.now (S.CaseSource.means source.now).case (selection_of (S.CaseSource.means source.now).case.pairs arms.now) V.TimeMeasure.ranking)) }
+    ensures { IfOk result (λ o. RankIs V.TimeMeasure.rank o (B.Bound.meaning bound.now (S.CaseSource.means source.now) (selection_of (S.CaseSource.means source.now).pairs arms.now) V.TimeMeasure.ranking)) }
 {
-    let mut times = zeros::<V>(heap, source.end() + 1)?;
+    let mut times = vec![in heap; V::zero(); source.end() + 1]?;
     let mut trials = *arms;
     Ok(bound.ask(source, &mut trials, times.as_mut_slice()))
 }
 
 /// The message of any source's case.
 pub(crate) fn message_of<S: CaseSource>(heap: Global, source: &S) -> Result<Vec<u8>, AllocError>
-    ensures { IfOk result (λ v. v.items ≡ message (S.CaseSource.means source.now).case) }
+    ensures { IfOk result (λ v. v.items ≡ message (S.CaseSource.means source.now)) }
 {
     let needed = 10 + 9 * source.fixed_count() + 18 * source.pair_count();
     let mut bytes = vec![in heap; 0; needed]?;

@@ -1,8 +1,7 @@
-ghost use Rattle.std.specs.Prelude.{◌≡◌, ◌+◌, ◌-◌, ◌<◌, ◌≤◌, true, ◌++◌, length, take, replicate, IfOk, Some, None, Ok, Err, vec_len, MatchOption, slice_index};
+ghost use Rattle.std.specs.Prelude.{◌≡◌, ◌+◌, ◌-◌, ◌<◌, ◌≤◌, true, ◌++◌, length, take, replicate, All, IfOk, Some, None, Ok, Err, vec_len, MatchOption, slice_index};
 ghost use Rattle.std.specs.List.{AllByRecursion};
-ghost use Rattle.graph.specs.Graph.{selection_of};
 ghost use Rattle.graph.specs.Times.{least_times, TimesLaw};
-ghost use Rattle.messages.specs.Message.{message_case, message_fault};
+ghost use Rattle.messages.specs.Message.{message_fault};
 ghost use Rattle.messages.specs.Named.{of_message};
 ghost use Rattle.messages.specs.Told.{passes};
 ghost use Rattle.bounds.specs.Told.{RankIs};
@@ -17,29 +16,41 @@ use messages::MessageFault;
 use railway::{Railway, check_railway};
 use sources::{Message, check_message};
 use std::alloc::{AllocError, Global};
+use std::fmt;
+use thiserror::Error;
 use trains::{RailwayFault, Step, Train};
 
 /// How large a case is: its last event, its fixed arcs and its pairs.
-#[derive(Clone, Copy)]
+#[derive(Clone, Copy, Debug, PartialEq, Eq)]
 pub struct CaseSize {
     pub end: usize,
     pub fixed: usize,
     pub pairs: usize,
 }
 
+impl fmt::Display for CaseSize {
+    fn fmt<W: fmt::Write>(&self, f: &mut fmt::Formatter<W>) -> fmt::Result {
+        let CaseSize { end, fixed, pairs } = *self;
+        write!(f, "events {end} fixed {fixed} pairs {pairs}")
+    }
+}
+
 /// Why a choice of arms is not taken.
-#[derive(Clone, Copy)]
+#[derive(Clone, Copy, Debug, PartialEq, Eq, Error)]
 pub enum ArmsFault {
-    /// There are more arms than pairs.
-    TooMany,
-    /// The arm at this index is not 0, 1 or 2.
+    /// There are more arms than pairs; the case has so many pairs.
+    #[error("the case has {0} pairs")]
+    TooMany(usize),
+    #[error("arm {0} is not 0, 1 or 2")]
     Arm(usize),
 }
 
 /// Why a railway is not taken: its check refuses it, or there is no memory.
-#[derive(Clone, Copy)]
+#[derive(Clone, Copy, Debug, PartialEq, Eq, Error)]
 pub enum RailwayRefusal {
+    #[error(transparent)]
     Railway(RailwayFault),
+    #[error("there is no memory")]
     Memory,
 }
 
@@ -59,6 +70,7 @@ impl From<AllocError> for RailwayRefusal {
     }
 }
 
+// Kept: its clauses name the fields, since a model would forget that the vector itself is kept.
 /// A case that was taken, as the message that it came in, and the arms that are chosen of its pairs.
 #[derive(Drop)]
 pub struct OpenCase {
@@ -69,17 +81,13 @@ pub struct OpenCase {
 
 /// The index of the first arm that is not 0, 1 or 2, if there is one.
 fn wrong_arm(arms: &[u8]) -> Option<usize>
-    ensures { MatchOption result (AllByRecursion (λ a. a ≤ 2) arms.now) (λ k. (k < length arms.now) × (2 < slice_index arms.now k)) }
+    ensures { MatchOption result (All (λ a. a ≤ 2) arms.now) (λ k. (k < length arms.now) × (2 < slice_index arms.now k)) }
 {
-    for (at, arm) in arms.iter().enumerate() {
-        if *arm > 2 {
-            return Some(at);
-        }
-    }
-    None
+    arms.iter().position(|arm| *arm > 2)
 }
 
 /// The table that begins with these arms and goes on with zeros.
+// Kept: the arms are sixty bytes of fixed memory, which a bound takes.
 fn table_of(arms: &[u8]) -> [u8; 60]
     requires { length arms.now ≤ 60 }
     ensures { result ≡ arms.now ++ replicate (60 - length arms.now) 0 }
@@ -90,6 +98,8 @@ fn table_of(arms: &[u8]) -> [u8; 60]
 }
 
 impl OpenCase {
+    ghost use Rattle.session.specs.Opened.{case_of, chosen_of};
+
     /// Takes a message that its check accepts, with no arm chosen.
     pub fn take(message: Vec<u8>) -> Result<OpenCase, MessageFault>
         ensures { elim result [ Ok o ↦ (message_fault message.items ≡ None) × (o.message ≡ message) × (o.arms ≡ replicate 60 0) | Err f ↦ message_fault message.items ≡ Some (of_message f) ] }
@@ -107,7 +117,7 @@ impl OpenCase {
         trains: &'a [Train],
         steps: &'a [Step],
     ) -> Result<OpenCase, RailwayRefusal>
-        ensures { elim result [ Ok o ↦ (railway_fault trains.now steps.now ≡ None) × (message_case o.message.items ≡ railway_case trains.now steps.now) × (o.arms ≡ replicate 60 0) | Err f ↦ RailwayRefused (railway_fault trains.now steps.now) f ] }
+        ensures { elim result [ Ok o ↦ (railway_fault trains.now steps.now ≡ None) × (case_of o ≡ railway_case trains.now steps.now) × (o.arms ≡ replicate 60 0) | Err f ↦ RailwayRefused (railway_fault trains.now steps.now) f ] }
     {
         check_railway(trains, steps)?;
         let message = message_of(heap, &Railway::over(trains, steps))?;
@@ -119,7 +129,8 @@ impl OpenCase {
 
     /// How large the case is.
     pub fn size(&self) -> CaseSize
-        ensures { result ≡ size_of (message_case self.now.message.items) }
+        ensures is { result ≡ size_of (case_of self.now) }
+        ensures few_pairs { result.pairs ≤ 60 }
     {
         let source = Message::over(self.message.as_slice());
         CaseSize {
@@ -131,7 +142,7 @@ impl OpenCase {
 
     /// The arms that are chosen, one for each pair, 0 where undecided.
     pub fn arms(&self) -> &[u8]
-        ensures { result.now ≡ take (length (message_case (self.now.message.items)).pairs) self.now.arms }
+        ensures { result.now ≡ take (length (case_of self.now).pairs) self.now.arms }
     {
         let pairs = self.size().pairs;
         &self.arms[0..pairs]
@@ -140,11 +151,12 @@ impl OpenCase {
     /// Chooses an arm, 1 or 2, of the first pairs, one after the other, or 0 to leave a pair undecided; the other pairs are
     /// undecided.
     pub fn choose(&mut self, arms: &[u8]) -> Result<(), ArmsFault>
-        ensures chosen { ArmsChosen (message_case self.old.message.items) arms.now self.old.arms self.new.arms result }
+        ensures chosen { ArmsChosen (case_of self.old) arms.now self.old.arms self.new.arms result }
         ensures same { self.new.message ≡ self.old.message }
     {
-        if arms.len() > self.size().pairs {
-            return Err(ArmsFault::TooMany);
+        let size = self.size();
+        if arms.len() > size.pairs {
+            return Err(ArmsFault::TooMany(size.pairs));
         }
         if let Some(at) = wrong_arm(arms) {
             return Err(ArmsFault::Arm(at));
@@ -155,8 +167,8 @@ impl OpenCase {
 
     /// The least times of the case with the chosen arms, one for each event, or none.
     pub fn times<V: TimeMeasure>(&self, heap: Global) -> Result<Option<Vec<V>>, AllocError>
-        ensures found { IfOk result (λ o. TimesFound V.TimeMeasure.rank (least_times V.TimeMeasure.ranking (message_case self.now.message.items) (selection_of (message_case (self.now.message.items)).pairs self.now.arms)) o) }
-        ensures law { TimesLaw V.TimeMeasure.ranking (message_case self.now.message.items) (selection_of (message_case (self.now.message.items)).pairs self.now.arms) }
+        ensures found { IfOk result (λ o. TimesFound V.TimeMeasure.rank (least_times V.TimeMeasure.ranking (case_of self.now) (chosen_of self.now)) o) }
+        ensures law { TimesLaw V.TimeMeasure.ranking (case_of self.now) (chosen_of self.now) }
     {
         times_of(heap, &Message::over(self.message.as_slice()), &self.arms)
     }
@@ -167,7 +179,7 @@ impl OpenCase {
         heap: Global,
         bound: &B,
     ) -> Result<Option<V>, AllocError>
-        ensures { IfOk result (λ o. RankIs V.TimeMeasure.rank o (B.Bound.meaning bound.now (message_case self.now.message.items) (selection_of (message_case (self.now.message.items)).pairs self.now.arms) V.TimeMeasure.ranking)) }
+        ensures { IfOk result (λ o. RankIs V.TimeMeasure.rank o (B.Bound.meaning bound.now (case_of self.now) (chosen_of self.now) V.TimeMeasure.ranking)) }
     {
         bound_of(
             heap,

@@ -1,4 +1,4 @@
 pub mod Arcs
-pub mod Layouts
-pub mod Listing
+pub mod Cutting
+pub mod Reading
 pub mod Writing

@@ -1,16 +1,13 @@
 -- Writing pieces one after the other.
 use Rattle.std.proofs.Common.{◌≡◌, ℕ, zero, suc, ◌+◌, ◌*◌, ◌<◌, ◌≤◌, List, [], ◌∷◌, ◌++◌, length, take, drop, Option, sym, refl, ap, ◌∙◌, arith}
 use Rattle.std.specs.List.{slice_get}
-use Rattle.std.proofs.lemmas.List.{append_assoc, append-nil, length-append, length-take-le, take_at, take_all, drop_at, drop-drop, take-append-drop}
+use Rattle.std.proofs.lemmas.List.{append_assoc, append-nil, length-append, length-take-le, take_at, drop_at, drop-drop}
 use Rattle.graph.specs.Graph.{Arc, Pair, Case}
 use Rattle.messages.specs.Message.{arc_bytes, arcs_bytes, pairs_bytes, message}
 use Rattle.graph.specs.Views.{arm_at}
 use Rattle.messages.proofs.Messages.{length_arcs_bytes, length_pairs_bytes, message_length}
 use Rattle.messages.specs.declared.faults.MessageFault.TheVariants.{NoRoom}
 use Rattle.sources.specs.Written.{put_at, head_bytes, found_bytes, Taken, Refused}
-
-pub put_nothing : (xs : List ℕ) (a : ℕ) → put_at xs a [] ≡ xs
-put_nothing xs a = let e : a + 0 ≡ a = omega arith in ap (λ n. take a xs ++ drop n xs) e ∙ take-append-drop a xs
 
 pub put_more : (xs p q : List ℕ) (a b : ℕ) → a + length p ≡ b → b ≤ length xs → put_at (put_at xs a p) b q ≡ put_at xs a (p ++ q)
 put_more xs p q a b e h =
@@ -27,10 +24,6 @@ put_more xs p q a b e h =
   where
     sums : (a m n k : ℕ) → k ≡ m + n → a + m + n ≡ a + k
     sums a m n k e = omega arith
-
--- as a write to a part of a slice has it
-pub put_part : (xs ys zs : List ℕ) (a k : ℕ) → k ≡ length zs → ys ≡ zs → take a xs ++ (ys ++ drop k (drop a xs)) ≡ put_at xs a zs
-put_part xs ys zs a k e h = λ j. take a xs ++ (h j ++ (drop-drop k a xs ∙ ap (λ n. drop (a + n) xs) e) j)
 
 -- one more arc
 
@@ -65,9 +58,6 @@ fixed_step xs before cur after k o e h room inv new =
     ∙ (put_more before (arcs_bytes (take k xs)) (found_bytes (slice_get xs k)) 10 (10 + 9 * k) (ap (λ n. 10 + n) (length_front xs k (omega arith))) (omega arith)
     ∙ ap (put_at before 10) (sym (arcs_more xs k h))))
 
-pub fixed_end : (xs : List Arc) (before cur : List ℕ) (k : ℕ) → length xs ≤ k → cur ≡ put_at before 10 (arcs_bytes (take k xs)) → cur ≡ put_at before 10 (arcs_bytes xs)
-fixed_end xs before cur k h inv = inv ∙ ap (λ l. put_at before 10 (arcs_bytes l)) (take_all k xs h)
-
 length_found : (ps : List Pair) (k : ℕ) → k < length ps → length (found_bytes (arm_at ps k 1)) ≡ 9
 length_found [] k h = absurd (omega arith)
 length_found (p ∷ ps) zero h = refl
@@ -86,9 +76,6 @@ pairs_step ps before cur mid after b k o q e f h room inv one two =
     ∙ ((λ j. put_at (first j) (b + 18 * k + 9) (found_bytes (f j)))
     ∙ (put_more before (done ++ x) y b (b + 18 * k + 9) l' (omega arith)
     ∙ ap (put_at before b) (append_assoc done x y ∙ sym (pairs_more ps k h))))
-
-pub pairs_end : (ps : List Pair) (before cur : List ℕ) (b k : ℕ) → length ps ≤ k → cur ≡ put_at before b (pairs_bytes (take k ps)) → cur ≡ put_at before b (pairs_bytes ps)
-pairs_end ps before cur b k h inv = inv ∙ ap (λ l. put_at before b (pairs_bytes l)) (take_all k ps h)
 
 -- head, fixed arcs and pairs make the message
 pub all_written : (c : Case) (before one two after : List ℕ) (n : ℕ) → n ≡ 10 + 9 * length c.fixed + 18 * length c.pairs → n ≤ length before → one ≡ put_at before 0 (head_bytes c.end (length c.fixed) (length c.pairs)) → two ≡ put_at one 10 (arcs_bytes c.fixed) → after ≡ put_at two (10 + 9 * length c.fixed) (pairs_bytes c.pairs) → after ≡ message c ++ drop n before

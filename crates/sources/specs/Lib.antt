@@ -1,4 +1,4 @@
-pub mod Laid
+pub mod Head
 pub mod Lists
-pub mod Means
+pub mod Records
 pub mod Written

@@ -4,9 +4,10 @@
 #![tactic(auto)]
 
 mod check;
-mod layout;
+mod checked;
 mod listed;
 mod message;
+mod records;
 mod write;
 
 pub use listed::{Listed, check_listed};

@@ -1,21 +1,73 @@
-ghost use Rattle.std.specs.Prelude.{◌≡◌, true};
-ghost use Rattle.messages.specs.Message.{contents, message_case, message_fault, WritesBack};
-ghost use Rattle.sources.specs.Means.{message_means};
-ghost use Rattle.messages.specs.Told.{message_told, passes};
+ghost use Rattle.std.specs.Prelude.{◌≡◌, ◌<◌, ◌≤◌, length, drop, Some, IfOk, MatchOption, MatchResult};
+ghost use Rattle.messages.specs.Message.{contents, message_case, message_fault, listed_fault, WritesBack};
+ghost use Rattle.messages.specs.Named.{of_message};
+ghost use Rattle.messages.specs.Told.{message_told};
+ghost use Rattle.sources.specs.Head.{head_of};
+ghost use Rattle.sources.specs.Records.{arc_in, pair_in, listed_by};
 
-use super::check::check_arcs;
-use super::layout::{Layout, check_head};
-use crate::check::Unchecked;
-use graph::{Arc, CaseSource};
+use super::checked::Checked;
+use super::records::Records;
+use graph::CaseSource;
 use messages::MessageFault;
 
-/// Checks the head, then each arc.
-fn check_parts(bytes: &[u8]) -> Result<(), MessageFault>
-    ensures { message_told result ≡ message_fault bytes.now }
+/// The case in a message.
+pub type Message<'a> = Checked<'a, [u8; 9], [[u8; 9]; 2]>;
+
+/// What stands in front of the arcs.
+#[derive(Clone, Copy)]
+struct Head {
+    behind: u32,
+    version: u8,
+    end: u16,
+    fixed: u16,
+    pairs: u8,
+}
+
+/// The head of a message, and what follows it.
+fn split_head(bytes: &[u8]) -> Option<(Head, &[u8])>
+    ensures { MatchOption result (length bytes.now < 10) (λ p. (10 ≤ length bytes.now) × (p.0 ≡ head_of bytes.now) × (p.1.now ≡ drop 10 bytes.now)) }
 {
-    check_head(bytes)?;
-    check_arcs(&Layout::of(bytes))?;
-    Ok(())
+    let (head, arcs) = bytes.split_first_chunk::<10>()?;
+    let [b0, b1, b2, b3, version, e0, e1, f0, f1, pairs] = *head;
+    let head = Head {
+        behind: u32::from_be_bytes([b0, b1, b2, b3]),
+        version,
+        end: u16::from_be_bytes([e0, e1]),
+        fixed: u16::from_be_bytes([f0, f1]),
+        pairs,
+    };
+    Some((head, arcs))
+}
+
+/// Checks the head of a message, and cuts what follows it into records.
+fn cut(bytes: &[u8]) -> Result<Records<'_, [u8; 9], [[u8; 9]; 2]>, MessageFault>
+    ensures { MatchResult result (λ r. (listed_by arc_in pair_in r ≡ contents bytes.now) × (message_fault bytes.now ≡ listed_fault (contents bytes.now))) (λ f. message_fault bytes.now ≡ Some (of_message f)) }
+{
+    let Some((head, arcs)) = split_head(bytes) else {
+        return Err(MessageFault::Short(bytes.len()));
+    };
+    if head.version != 1 {
+        return Err(MessageFault::Version);
+    }
+    let end = head.end as usize;
+    if end == 0 || end > 511 {
+        return Err(MessageFault::Events);
+    }
+    let fixed = head.fixed as usize;
+    if fixed > 2048 {
+        return Err(MessageFault::TooManyFixedArcs);
+    }
+    let pairs = head.pairs as usize;
+    if pairs > 60 {
+        return Err(MessageFault::TooManyPairs);
+    }
+    let behind = 6 + 9 * fixed + 18 * pairs;
+    if head.behind as usize != behind || bytes.len() != 4 + behind {
+        return Err(MessageFault::Length);
+    }
+    let (fixed, arms) = arcs.as_chunks::<9>().0.split_at(fixed);
+    let pairs = arms.as_chunks::<2>().0;
+    Ok(Records { end, fixed, pairs })
 }
 
 /// Checks a message: its head, then each arc.
@@ -23,75 +75,22 @@ pub fn check_message(bytes: &[u8]) -> Result<(), MessageFault>
     ensures told { message_told result ≡ message_fault bytes.now }
     ensures law { WritesBack bytes.now }
 {
-    check_parts(bytes)
+    Message::read(bytes).map(|_| ())
 }
 
-/// The case in a message; over bytes that the check refuses, the empty case.
-#[derive(Clone, Copy)]
-pub struct Message<'a> {
-    bytes: &'a [u8],
-    taken: bool,
-    ghost checked: { taken ≡ passes (message_fault bytes.now) },
-}
+impl<'a> Checked<'a, [u8; 9], [[u8; 9]; 2]> {
+    /// The case in a message, if the message passes its check.
+    pub fn read(bytes: &'a [u8]) -> Result<Message<'a>, MessageFault>
+        ensures told { message_told result ≡ message_fault bytes.now }
+        ensures means { IfOk result (λ s. ⟦<Message<'a> as CaseSource>⟧.means s ≡ message_case bytes.now) }
+    {
+        Ok(Checked::of(cut(bytes)?)?)
+    }
 
-impl<'a> Message<'a> {
+    /// The case in a message; over bytes that the check refuses, the empty case.
     pub fn over(bytes: &'a [u8]) -> Message<'a>
-        ensures { result.bytes.now ≡ bytes.now }
+        ensures { ⟦<Message<'a> as CaseSource>⟧.means result ≡ message_case bytes.now }
     {
-        Message {
-            bytes,
-            taken: check_message(bytes).is_ok(),
-        }
-    }
-
-    /// What is read, where the check takes it.
-    fn layout(&self) -> Layout<'a>
-        requires { self.now.taken ≡ true }
-        ensures { contents result.bytes.now ≡ message_case self.now.bytes.now }
-    {
-        Layout::of(self.bytes)
-    }
-}
-
-impl<'a> CaseSource for Message<'a> {
-    ghost means = { λ s. message_means s.bytes.now };
-
-    fn end(&self) -> usize {
-        if self.taken {
-            self.layout().last_event()
-        } else {
-            1
-        }
-    }
-
-    fn fixed_count(&self) -> usize {
-        if self.taken {
-            self.layout().fixed_len()
-        } else {
-            0
-        }
-    }
-
-    fn pair_count(&self) -> usize {
-        if self.taken {
-            self.layout().pairs_len()
-        } else {
-            0
-        }
-    }
-
-    fn fixed_arc(&self, at: usize) -> Option<Arc> {
-        if at < self.fixed_count() {
-            Some(self.layout().fixed_at(at))
-        } else {
-            None
-        }
-    }
-
-    fn arm(&self, pair: usize, arm: u8) -> Option<Arc> {
-        if pair >= self.pair_count() || arm == 0 || arm > 2 {
-            return None;
-        }
-        Some(self.layout().arm_at(pair, arm))
+        Message::read(bytes).unwrap_or(Checked::empty())
     }
 }

@@ -48,9 +48,10 @@ fn put_arc(out: &mut [u8], at: usize, arc: Option<Arc>)
 
 /// Writes the fixed arcs after the head.
 fn put_fixed<S: CaseSource>(source: &S, out: &mut [u8])
-    requires { 10 + 9 * length (S.CaseSource.means source.now).case.fixed ≤ length out.old }
-    ensures { out.new ≡ put_at out.old 10 (arcs_bytes (S.CaseSource.means source.now).case.fixed) }
+    requires { 10 + 9 * length (S.CaseSource.means source.now).fixed ≤ length out.old }
+    ensures { out.new ≡ put_at out.old 10 (arcs_bytes (S.CaseSource.means source.now).fixed) }
 {
+    // Kept: once chunks that were lent to be written are back, a proof knows only how long the slice is.
     for number in 0..source.fixed_count() {
         put_arc(out, 10 + 9 * number, source.fixed_arc(number));
     }
@@ -58,9 +59,10 @@ fn put_fixed<S: CaseSource>(source: &S, out: &mut [u8])
 
 /// Writes the arms of each pair, from a place on.
 fn put_pairs<S: CaseSource>(source: &S, out: &mut [u8], from: usize)
-    requires { from + 18 * length (S.CaseSource.means source.now).case.pairs ≤ length out.old }
-    ensures { out.new ≡ put_at out.old from (pairs_bytes (S.CaseSource.means source.now).case.pairs) }
+    requires { from + 18 * length (S.CaseSource.means source.now).pairs ≤ length out.old }
+    ensures { out.new ≡ put_at out.old from (pairs_bytes (S.CaseSource.means source.now).pairs) }
 {
+    // Kept: as for the fixed arcs.
     for pair in 0..source.pair_count() {
         let at = from + 18 * pair;
         put_arc(out, at, source.arm(pair, 1));
@@ -71,8 +73,8 @@ fn put_pairs<S: CaseSource>(source: &S, out: &mut [u8], from: usize)
 /// Writes the case as a message into the front of `out`, and answers the message's length; the rest stays. Memory that is
 /// too short is refused, and nothing is written.
 pub fn write_message<S: CaseSource>(source: &S, out: &mut [u8]) -> Result<usize, MessageFault>
-    ensures written { Written (S.CaseSource.means source.now).case out.old out.new result }
-    ensures law { ReadsBack (S.CaseSource.means source.now).case }
+    ensures written { Written (S.CaseSource.means source.now) out.old out.new result }
+    ensures law { ReadsBack (S.CaseSource.means source.now) }
 {
     let fixed = source.fixed_count();
     let pairs = source.pair_count();

@@ -39,10 +39,7 @@ fn asked<B: Bound, S: CaseSource>(
     arms: &mut [u8; 60],
     times: &mut [Seconds],
 ) -> Option<i64> {
-    match bound.ask(source, arms, times) {
-        Some(time) => Some(time.value()),
-        None => None,
-    }
+    bound.ask(source, arms, times).map(Seconds::value)
 }
 
 /// A bound's answer in seconds, with an arm of the first pair and places for six events.

@@ -14,7 +14,7 @@ pub struct UntilDecided {
 
 /// Whether an arm of a pair is selected.
 fn is_decided<S: CaseSource>(source: &S, arms: &[u8; 60], pair: usize) -> bool
-    ensures { result ≡ decided (selection_of (S.CaseSource.means source.now).case.pairs arms.now) pair }
+    ensures { result ≡ decided (selection_of (S.CaseSource.means source.now).pairs arms.now) pair }
 {
     pair < source.pair_count() && (arms[pair] == 1 || arms[pair] == 2)
 }

@@ -1,5 +1,5 @@
 -- The case of a railway is within the limits.
-use Rattle.std.proofs.Common.{◌≡◌, ℕ, zero, suc, ◌+◌, ◌*◌, ◌<◌, ◌≤◌, max, true, false, cond, eqb, ltb, List, [], ◌∷◌, ◌++◌, length, get_or, take, drop, pos, negsuc, neg_ℤ, ◌≤ℤ◌, None, refl, ap, arith}
+use Rattle.std.proofs.Common.{◌≡◌, ℕ, zero, suc, ◌+◌, ◌*◌, ◌<◌, ◌≤◌, max, true, false, cond, eqb, ltb, List, [], ◌∷◌, ◌++◌, length, get_or, take, drop, pos, neg_ℤ, None, sym, refl, ap, ◌∙◌, arith}
 use Rattle.std.specs.List.{AllByRecursion}
 use Rattle.std.proofs.lemmas.Bool.{ltb-false, ne_eqb, or_parts}
 use Rattle.std.proofs.lemmas.Int.{ints}
@@ -56,7 +56,7 @@ last_below : (e : ℕ) (ts : List Train) → AllByRecursion TrainGood ts → las
 last_below e [] g = omega arith
 last_below e (t ∷ ts) g = omega (arith, last_below (e + t.steps + 1) ts g.1, g.0.steps)
 
-length_trips : (e : ℕ) (ts : List Train) (ss : List Step) → length (trips e ts ss) ≡ length ts
+pub length_trips : (e : ℕ) (ts : List Train) (ss : List Step) → length (trips e ts ss) ≡ length ts
 length_trips e [] ss = refl
 length_trips e (t ∷ ts) ss = ap suc (length_trips (e + t.steps + 1) ts (drop t.steps ss))
 
@@ -81,18 +81,6 @@ sum_below : (ss : List Step) → AllByRecursion (λ s. s.running ≤ 3600) ss �
 sum_below [] k = omega arith
 sum_below (s ∷ ss) k = omega (arith, sum_below ss k.1, k.0)
 
-pos_above : (m : ℕ) → negsuc 999999 ≤ℤ pos m
-pos_above m = omega (arith, ints)
-
-pos_below : (m : ℕ) → m ≤ 1000000 → pos m ≤ℤ pos 1000000
-pos_below m h = omega (arith, ints)
-
-neg_above : (m : ℕ) → m ≤ 1000000 → negsuc 999999 ≤ℤ neg_ℤ (pos m)
-neg_above m h = omega (arith, ints)
-
-neg_below : (m : ℕ) → neg_ℤ (pos m) ≤ℤ pos 1000000
-neg_below m = omega (arith, ints)
-
 runs_within : (n e : ℕ) (ss : List Step) → e + length ss ≤ n → AllByRecursion (λ s. s.running ≤ 3600) ss → AllByRecursion (ArcWithin n) (runs e ss)
 runs_within n e [] h k = tt
 runs_within n e (s ∷ ss) h k = (
@@ -100,8 +88,8 @@ runs_within n e (s ∷ ss) h k = (
     from_known = omega arith;
     to_known = omega arith;
     apart = omega arith;
-    not_below = pos_above s.running;
-    not_above = pos_below s.running (omega (arith, k.0));
+    not_below = omega (arith, ints);
+    not_above = omega (arith, ints, k.0);
     marked = omega arith;
   },
   runs_within n (e + 1) ss (omega arith) k.1,
@@ -113,8 +101,8 @@ trip_within n low t g = (
     from_known = omega arith;
     to_known = omega (arith, g.room);
     apart = omega (arith, g.start);
-    not_below = pos_above t.entry;
-    not_above = pos_below t.entry (omega (arith, g.entry));
+    not_below = omega (arith, ints);
+    not_above = omega (arith, ints, g.entry);
     marked = omega arith;
   },
   All-append (ArcWithin n) (runs t.first t.steps) (arc (t.first + length t.steps) n (neg_ℤ (pos (max t.due (unhindered t)))) 0 ∷ [])
@@ -123,8 +111,8 @@ trip_within n low t g = (
           from_known = omega (arith, g.room);
           to_known = omega arith;
           apart = omega (arith, g.room);
-          not_below = neg_above (max t.due (unhindered t)) (omega (arith, g.due, g.entry, g.few, sum_below t.steps g.steps));
-          not_above = neg_below (max t.due (unhindered t));
+          not_below = omega (arith, ints, g.due, g.entry, g.few, sum_below t.steps g.steps);
+          not_above = omega (arith, ints);
           marked = omega arith;
         },
         tt,
@@ -165,7 +153,7 @@ both_append n ps qs v w =
 
 apart_within : (n a b m : ℕ) → a ≤ n → b ≤ n → (a ≡ b → ⊥) → m ≤ 1000000 → ArcWithin n (arc a b (pos m) 1)
 apart_within n a b m ha hb ne hm =
-    record { from_known = ha; to_known = hb; apart = ne; not_below = pos_above m; not_above = pos_below m hm; marked = omega arith }
+    record { from_known = ha; to_known = hb; apart = ne; not_below = omega (arith, ints); not_above = omega (arith, ints); marked = omega arith }
 
 meeting_within : (n : ℕ) (t u : Trip) (e : ℕ) (s : Step) (f : ℕ) (q : Step) → e + 1 < f → f + 1 ≤ n → BothWithin n (meeting t u e s f q)
 meeting_within n t u e s f q h k =
@@ -252,32 +240,20 @@ few_kinds HotMetal = omega arith
 few_kinds Staff = omega arith
 few_kinds LightEngine = omega arith
 
+-- the kind of a number, which gives each kind back
+kind_of : ℕ → Kind
+kind_of n = cond (eqb n 0) LoadedOre (cond (eqb n 1) EmptyOre (cond (eqb n 2) HotMetal (cond (eqb n 3) Staff LightEngine)))
+
+kind_back : (g : Kind) → kind_of (kind_number g) ≡ g
+unfolding kind_of
+kind_back LoadedOre = refl
+kind_back EmptyOre = refl
+kind_back HotMetal = refl
+kind_back Staff = refl
+kind_back LightEngine = refl
+
 one_kind_each : (g h : Kind) → kind_number g ≡ kind_number h → g ≡ h
-one_kind_each LoadedOre LoadedOre e = refl
-one_kind_each LoadedOre EmptyOre e = absurd (omega arith)
-one_kind_each LoadedOre HotMetal e = absurd (omega arith)
-one_kind_each LoadedOre Staff e = absurd (omega arith)
-one_kind_each LoadedOre LightEngine e = absurd (omega arith)
-one_kind_each EmptyOre LoadedOre e = absurd (omega arith)
-one_kind_each EmptyOre EmptyOre e = refl
-one_kind_each EmptyOre HotMetal e = absurd (omega arith)
-one_kind_each EmptyOre Staff e = absurd (omega arith)
-one_kind_each EmptyOre LightEngine e = absurd (omega arith)
-one_kind_each HotMetal LoadedOre e = absurd (omega arith)
-one_kind_each HotMetal EmptyOre e = absurd (omega arith)
-one_kind_each HotMetal HotMetal e = refl
-one_kind_each HotMetal Staff e = absurd (omega arith)
-one_kind_each HotMetal LightEngine e = absurd (omega arith)
-one_kind_each Staff LoadedOre e = absurd (omega arith)
-one_kind_each Staff EmptyOre e = absurd (omega arith)
-one_kind_each Staff HotMetal e = absurd (omega arith)
-one_kind_each Staff Staff e = refl
-one_kind_each Staff LightEngine e = absurd (omega arith)
-one_kind_each LightEngine LoadedOre e = absurd (omega arith)
-one_kind_each LightEngine EmptyOre e = absurd (omega arith)
-one_kind_each LightEngine HotMetal e = absurd (omega arith)
-one_kind_each LightEngine Staff e = absurd (omega arith)
-one_kind_each LightEngine LightEngine e = refl
+one_kind_each g h e = sym (kind_back g) ∙ (ap kind_of e ∙ kind_back h)
 
 -- no trains
 

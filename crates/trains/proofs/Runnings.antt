@@ -1,5 +1,5 @@
 -- The pairs are those of two steps of different trains on one section, and of no others; and what keeps the case.
-use Rattle.std.proofs.Common.{◌≡◌, ℕ, zero, suc, ◌+◌, ◌<◌, max, Bool, true, false, cond, eqb, ◌⊎◌, List, [], ◌∷◌, ◌++◌, length, pos, neg_ℤ, Some, None, sym, refl, ap, ◌∙◌, subst, arith}
+use Rattle.std.proofs.Common.{◌≡◌, ℕ, zero, suc, ◌+◌, ◌<◌, max, Bool, true, false, cond, eqb, ◌⊎◌, List, [], ◌∷◌, ◌++◌, length, pos, neg_ℤ, Some, None, sym, refl, subst, add-zero, arith}
 use Rattle.std.specs.List.{ContainsAt, AllByRecursion, slice_get}
 use Rattle.std.proofs.ByRecursion.{All-append, all-has, All-weaker, has_append_left, has_append_right}
 use Rattle.std.proofs.lemmas.Bool.{cond-true, eqb-true, eq-eqb}
@@ -12,9 +12,6 @@ use Rattle.trains.specs.Railway.{Trip, trips, last_event, unhindered, arc, runs,
 
 further : (f b : ℕ) → f + suc b ≡ f + 1 + b
 further f b = omega arith
-
-none_further : (f : ℕ) → f + 0 ≡ f
-none_further f = omega arith
 
 -- every pair is one of two such steps
 
@@ -29,15 +26,15 @@ module _ (P : Pair → Type 0) (t u : Trip) where
   steps_meet : (e : ℕ) (s : Step) (f : ℕ) (qs : List Step) → ((b : ℕ) (q : Step) → slice_get qs b ≡ Some q → s.section ≡ q.section → P (met t.kind u.kind e (f + b))) → AllByRecursion P (step_pairs t u e s f qs)
   steps_meet e s f [] h = tt
   steps_meet e s f (q ∷ qs) h =
-      All-append P (meeting t u e s f q) (step_pairs t u e s (f + 1) qs) (one_meets e s f q (λ k. subst (λ n. P (met t.kind u.kind e n)) (none_further f) (h 0 q refl k)))
-      (steps_meet e s (f + 1) qs (λ b v i k. subst (λ n. P (met t.kind u.kind e n)) (further f b) (h (suc b) v i k)))
+      All-append P (meeting t u e s f q) (step_pairs t u e s (f + 1) qs) (one_meets e s f q (λ k. rw add-zero at (h 0 q refl k)))
+      (steps_meet e s (f + 1) qs (λ b v i k. rw (further f b) at (h (suc b) v i k)))
 
   trips_meet : (e : ℕ) (ss : List Step) → ((a : ℕ) (s : Step) → slice_get ss a ≡ Some s → (b : ℕ) (q : Step) → slice_get u.steps b ≡ Some q → s.section ≡ q.section → P (met t.kind u.kind (e + a) (u.first + b))) → AllByRecursion P (trip_pairs t u e ss)
   trips_meet e [] h = tt
   trips_meet e (s ∷ ss) h =
       All-append P (step_pairs t u e s u.first u.steps) (trip_pairs t u (e + 1) ss)
-      (steps_meet e s u.first u.steps (λ b q i k. subst (λ n. P (met t.kind u.kind n (u.first + b))) (none_further e) (h 0 s refl b q i k)))
-      (trips_meet (e + 1) ss (λ a v i b q l k. subst (λ n. P (met t.kind u.kind n (u.first + b))) (further e a) (h (suc a) v i b q l k)))
+      (steps_meet e s u.first u.steps (λ b q i k. rw add-zero at (h 0 s refl b q i k)))
+      (trips_meet (e + 1) ss (λ a v i b q l k. rw (further e a) at (h (suc a) v i b q l k)))
 
 with_meet : (P : Pair → Type 0) (t : Trip) (us : List Trip) → ((j : ℕ) (u : Trip) → slice_get us j ≡ Some u → AllByRecursion P (trip_pairs t u t.first t.steps)) → AllByRecursion P (pairs_with t us)
 with_meet P t [] h = tt
@@ -73,12 +70,6 @@ pairs_meet ts =
 
 -- every two such steps have their pair
 
-none_some : {X : Type 0} (x : X) → None ≡ Some x → ⊥
-none_some x e = let z : ◌≡◌ {A = ℕ} 0 1 = cc in omega arith
-
-some_same : {X : Type 0} (x y : X) → Some x ≡ Some y → x ≡ y
-some_same x y e = cc
-
 module _ (t u : Trip) where
   has_one : (e : ℕ) (s : Step) (f : ℕ) (q : Step) → s.section ≡ q.section → ContainsAt (meeting t u e s f q) (met t.kind u.kind e f)
   has_one e s f q k =
@@ -87,34 +78,34 @@ module _ (t u : Trip) where
       (0, omega arith, λ d. refl)
 
   has_step : (e : ℕ) (s : Step) (f : ℕ) (qs : List Step) (b : ℕ) (q : Step) → slice_get qs b ≡ Some q → s.section ≡ q.section → ContainsAt (step_pairs t u e s f qs) (met t.kind u.kind e (f + b))
-  has_step e s f [] b q i k = absurd (none_some q i)
+  has_step e s f [] b q i k = cc
   has_step e s f (v ∷ qs) zero q i k =
       has_append_left (meeting t u e s f v) (step_pairs t u e s (f + 1) qs) (met t.kind u.kind e (f + 0))
-      (subst (λ n. ContainsAt (meeting t u e s f v) (met t.kind u.kind e n)) (sym (none_further f)) (has_one e s f v (k ∙ ap (λ (x : Step). x.section) (sym (some_same v q i)))))
+      (rw add-zero (has_one e s f v (cc)))
   has_step e s f (v ∷ qs) (suc b) q i k =
       has_append_right (meeting t u e s f v) (step_pairs t u e s (f + 1) qs) (met t.kind u.kind e (f + suc b))
-      (subst (λ n. ContainsAt (step_pairs t u e s (f + 1) qs) (met t.kind u.kind e n)) (sym (further f b)) (has_step e s (f + 1) qs b q i k))
+      (rw (further f b) (has_step e s (f + 1) qs b q i k))
 
   has_trip : (e : ℕ) (ss : List Step) (a : ℕ) (s : Step) (b : ℕ) (q : Step) → slice_get ss a ≡ Some s → slice_get u.steps b ≡ Some q → s.section ≡ q.section → ContainsAt (trip_pairs t u e ss) (met t.kind u.kind (e + a) (u.first + b))
-  has_trip e [] a s b q i l k = absurd (none_some s i)
+  has_trip e [] a s b q i l k = cc
   has_trip e (v ∷ ss) zero s b q i l k =
       has_append_left (step_pairs t u e v u.first u.steps) (trip_pairs t u (e + 1) ss) (met t.kind u.kind (e + 0) (u.first + b))
-      (subst (λ n. ContainsAt (step_pairs t u e v u.first u.steps) (met t.kind u.kind n (u.first + b))) (sym (none_further e)) (has_step e v u.first u.steps b q l (ap (λ (x : Step). x.section) (some_same v s i) ∙ k)))
+      (rw add-zero (has_step e v u.first u.steps b q l (cc)))
   has_trip e (v ∷ ss) (suc a) s b q i l k =
       has_append_right (step_pairs t u e v u.first u.steps) (trip_pairs t u (e + 1) ss) (met t.kind u.kind (e + suc a) (u.first + b))
-      (subst (λ n. ContainsAt (trip_pairs t u (e + 1) ss) (met t.kind u.kind n (u.first + b))) (sym (further e a)) (has_trip (e + 1) ss a s b q i l k))
+      (rw (further e a) (has_trip (e + 1) ss a s b q i l k))
 
 has_with : (t : Trip) (us : List Trip) (j : ℕ) (u : Trip) (p : Pair) → slice_get us j ≡ Some u → ContainsAt (trip_pairs t u t.first t.steps) p → ContainsAt (pairs_with t us) p
-has_with t [] j u p i h = absurd (none_some u i)
+has_with t [] j u p i h = cc
 has_with t (v ∷ us) zero u p i h =
-    has_append_left (trip_pairs t v t.first t.steps) (pairs_with t us) p (subst (λ x. ContainsAt (trip_pairs t x t.first t.steps) p) (sym (some_same v u i)) h)
+    let same : u ≡ v = cc in has_append_left (trip_pairs t v t.first t.steps) (pairs_with t us) p (rw same at h)
 has_with t (v ∷ us) (suc j) u p i h = has_append_right (trip_pairs t v t.first t.steps) (pairs_with t us) p (has_with t us j u p i h)
 
 has_all : (ts : List Trip) (i j : ℕ) (t u : Trip) (p : Pair) → i < j → slice_get ts i ≡ Some t → slice_get ts j ≡ Some u → ContainsAt (trip_pairs t u t.first t.steps) p → ContainsAt (all_pairs ts) p
-has_all [] i j t u p l x y h = absurd (none_some t x)
+has_all [] i j t u p l x y h = cc
 has_all (v ∷ ts) i zero t u p l x y h = absurd (omega arith)
 has_all (v ∷ ts) zero (suc j) t u p l x y h =
-    has_append_left (pairs_with v ts) (all_pairs ts) p (has_with v ts j u p y (subst (λ (n : Trip). ContainsAt (trip_pairs n u n.first n.steps) p) (sym (some_same v t x)) h))
+    let same : t ≡ v = cc in has_append_left (pairs_with v ts) (all_pairs ts) p (has_with v ts j u p y (rw same at h))
 has_all (v ∷ ts) (suc i) (suc j) t u p l x y h = has_append_right (pairs_with v ts) (all_pairs ts) p (has_all ts i j t u p (omega arith) x y h)
 
 pub meetings_paired : (ts : List Trip) (p : Pair) → Meets ts p → ContainsAt (all_pairs ts) p
@@ -136,15 +127,15 @@ all_behind P (x ∷ xs) ys h = all_behind P xs ys h.1
 all_runs : (P : Arc → Type 0) (e : ℕ) (ss : List Step) → ((a : ℕ) (s : Step) → slice_get ss a ≡ Some s → P (arc (e + a) (e + a + 1) (pos s.running) 0)) → AllByRecursion P (runs e ss)
 all_runs P e [] h = tt
 all_runs P e (s ∷ ss) h = (
-  subst (λ n. P (arc n (n + 1) (pos s.running) 0)) (none_further e) (h 0 s refl),
-  all_runs P (e + 1) ss (λ a v i. subst (λ n. P (arc n (n + 1) (pos v.running) 0)) (further e a) (h (suc a) v i)),
+  rw add-zero at (h 0 s refl),
+  all_runs P (e + 1) ss (λ a v i. rw (further e a) at (h (suc a) v i)),
 )
 
 runs_all : (P : Arc → Type 0) (e : ℕ) (ss : List Step) → AllByRecursion P (runs e ss) → (a : ℕ) (s : Step) → slice_get ss a ≡ Some s → P (arc (e + a) (e + a + 1) (pos s.running) 0)
-runs_all P e [] h a s i = absurd (none_some s i)
+runs_all P e [] h a s i = cc
 runs_all P e (v ∷ ss) h zero s i =
-    subst (λ n. P (arc n (n + 1) (pos s.running) 0)) (sym (none_further e)) (subst (λ (x : Step). P (arc e (e + 1) (pos x.running) 0)) (some_same v s i) h.0)
-runs_all P e (v ∷ ss) h (suc a) s i = subst (λ n. P (arc n (n + 1) (pos s.running) 0)) (sym (further e a)) (runs_all P (e + 1) ss h.1 a s i)
+    let same : v ≡ s = cc in rw add-zero (subst (λ (x : Step). P (arc e (e + 1) (pos x.running) 0)) same h.0)
+runs_all P e (v ∷ ss) h (suc a) s i = rw (further e a) (runs_all P (e + 1) ss h.1 a s i)
 
 module _ (r : Ranking) (w : Timetable) (n : ℕ) where
   trip_kept : (t : Trip) → AllByRecursion (Keeps r w) (trip_arcs n t) → TripKept r w n t

@@ -1,6 +1,6 @@
 -- What each fault of a railway is in numbers. Assumes nothing.
-use Rattle.std.specs.Prelude.{Some, None, Ok, Err, Option, Result}
-use Rattle.graph.specs.Faults.{Fault}
+use Rattle.std.specs.Prelude.{Option, Result}
+use Rattle.graph.specs.Faults.{Fault, told_by}
 use Rattle.trains.specs.declared.faults.RailwayFault.{RailwayFault}
 use Rattle.trains.specs.declared.faults.RailwayFault.TheVariants as railway
 
@@ -14,5 +14,4 @@ of_railway railway.TooManyPairs = record { layer = 3; cause = 21; place = 60 }
 
 -- the fault that a call is refused with, if it is
 abbrev pub railway_told : {T : Type 0} → Result T RailwayFault → Option Fault
-railway_told (Ok x) = None
-railway_told (Err f) = Some (of_railway f)
+railway_told = told_by of_railway

@@ -1,34 +1,38 @@
 ghost use Rattle.std.specs.Prelude.{◌≡◌};
 ghost use Rattle.trains.specs.Named.{of_railway};
 
+use graph::Refusal;
+use thiserror::Error;
+
 /// The number of the layer of railways.
 const LAYER: u8 = 3;
 
 /// Why a railway is refused.
-#[derive(Clone, Copy, Debug, PartialEq, Eq)]
+#[derive(Clone, Copy, Debug, PartialEq, Eq, Error)]
 pub enum RailwayFault {
+    #[error("there are more than 12 trains")]
     TooManyTrains,
     /// The train breaks a limit.
+    #[error("train {0} has a class, entry, due time or number of steps past its limit")]
     Train(usize),
     /// There are so many steps, and the trains ask for another number of them.
+    #[error("there are {0} steps, and the trains ask for another number of them")]
     Steps(usize),
     /// The step breaks a limit.
+    #[error("step {0} has a section or running time past its limit")]
     Step(usize),
+    #[error("there are more than 60 pairs")]
     TooManyPairs,
 }
 
-impl RailwayFault {
-    /// The layer that refuses.
-    pub fn layer(self) -> u8
-        ensures { result ≡ (of_railway self).layer }
-    {
+impl Refusal for RailwayFault {
+    ghost told = { of_railway };
+
+    fn layer(self) -> u8 {
         LAYER
     }
 
-    /// The number of the cause.
-    pub fn cause(self) -> u8
-        ensures { result ≡ (of_railway self).cause }
-    {
+    fn cause(self) -> u8 {
         match self {
             RailwayFault::TooManyTrains => 17,
             RailwayFault::Train(_) => 18,
@@ -38,10 +42,7 @@ impl RailwayFault {
         }
     }
 
-    /// The train or the step that breaks a limit, the number of steps, or the limit on trains or pairs.
-    pub fn place(self) -> usize
-        ensures { result ≡ (of_railway self).place }
-    {
+    fn place(self) -> usize {
         match self {
             RailwayFault::TooManyTrains => 12,
             RailwayFault::TooManyPairs => 60,

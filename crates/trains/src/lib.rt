@@ -7,9 +7,8 @@ mod faults;
 mod kind;
 mod laws;
 mod train;
-mod words;
 
 pub use faults::RailwayFault;
-pub use kind::Kind;
+pub use kind::{Kind, UnknownKind};
 pub use laws::railway_laws_hold;
 pub use train::{Step, Train};

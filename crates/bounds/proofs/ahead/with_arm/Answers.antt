@@ -4,5 +4,5 @@ use Rattle.bounds.proofs.ahead.with_arm.Goals as goal
 
 pub returns : goal.returns
 returns g c =
-    put_back g.V.TimeMeasure.rank g.V.TimeMeasure.ranking (g.S.CaseSource.means c.args.source.now).case c.args.arms.now c.ask.new.arms c.drop-trial.new.self.0 c.args.pair c.args.arm c.args.times.now c.ask.new.times c.ask.result
+    put_back g.V.TimeMeasure.rank g.V.TimeMeasure.ranking (g.S.CaseSource.means c.args.source.now) c.args.arms.now c.ask.new.arms c.drop-trial.new.self.0 c.args.pair c.args.arm c.args.times.now c.ask.new.times c.ask.result
     c.requires.arm (omega arith) c.ask.ensures c.drop-trial.ensures

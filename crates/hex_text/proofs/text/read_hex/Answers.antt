@@ -1,33 +1,22 @@
-use Rattle.std.proofs.Common.{◌≡◌, ℕ, ◌+◌, ◌*◌, ◌%◌, ◌≤◌, List, length, Some, vec_items, sym, ap, ◌∙◌, subst, arith}
-use Rattle.std.proofs.lemmas.List.{take_all}
-use Rattle.std.proofs.lemmas.Result.{err_from_is_err_and}
-use Rattle.hex_text.specs.Hex.{hex_bytes}
-use Rattle.hex_text.proofs.Digits.{hex_more, hex_odd, read_bad}
+use Rattle.std.proofs.Common.{Ok, vec_items}
+use Rattle.hex.specs.declared.error.FromHexError.TheVariants.{InvalidHexCharacter, OddLength, InvalidStringLength}
+use Rattle.hex_text.proofs.Digits.{BadAt, fault_told, read_told}
 use Rattle.hex_text.proofs.text.read_hex.Goals as goal
 
-pub returns-then-digits-eq1 : goal.returns-then-digits-eq1
-returns-then-digits-eq1 c =
-    let e = subst (λ (t : List ℕ). length t % 2 ≡ 1) c.as_bytes-digits.ensures.value c.if-digits-eq1.true in (hex_odd c.args.text.now e, e)
+pub unreachable-requires : goal.unreachable-requires
+unreachable-requires c = let n = c.in-Err-InvalidStringLength in fault_told c.args.text.now n.field-0 InvalidStringLength n.field-0-is n.ensures.err
 
-pub returns-in_err-high : goal.returns-in_err-high
-returns-in_err-high c =
-    let p = err_from_is_err_and c.from_residual.result c.from_residual.ensures.1 in
-    let b = c.in_err-high.ensures in
-    rw (p.1, p.2) (read_bad c.args.text.now c.as_bytes-digits.result.now (2 * c.loop-at.at) c.in_err-high.field-0.0 c.as_bytes-digits.ensures.value b.0 (omega arith) b.1)
+pub returns-in-Ok-clause-read : goal.returns-in-Ok-clause-read
+returns-in-Ok-clause-read c = read_told c.args.text.now (Ok (vec_items c.in-Ok.bytes)) c.in-Ok.ensures.ok
 
-pub returns-in_err-low : goal.returns-in_err-low
-returns-in_err-low c =
-    let p = err_from_is_err_and c.from_residual-in_err-low.result c.from_residual-in_err-low.ensures.1 in
-    let b = c.in_err-low.ensures in
-    rw (p.1, p.2) (read_bad c.args.text.now c.as_bytes-digits.result.now (2 * c.loop-at.at + 1) c.in_err-low.field-0.0 c.as_bytes-digits.ensures.value b.0 (omega arith) b.1)
+bad_at : (c : goal.In-Err-InvalidHexCharacter) → BadAt c.args.text.now c.in-Err-InvalidHexCharacter.index
+bad_at c = let n = c.in-Err-InvalidHexCharacter in fault_told c.args.text.now n.field-0 (InvalidHexCharacter n.field-0-0 n.index) n.field-0-is n.ensures.err
 
-pub loop-at-preserved : goal.loop-at-preserved
-loop-at-preserved c =
-    hex_more c.as_bytes-digits.result.now (vec_items c.loop-at.bytes) c.loop-at.at c.in_ok-high.high c.in_ok-low.low (omega arith) c.loop-at.invariant
-    c.in_ok-high.ensures.0 c.in_ok-low.ensures.0
-    ∙ ap Some (sym c.in_ok-push.ensures.items)
+pub returns-in-Err-InvalidHexCharacter-clause-read : goal.returns-in-Err-InvalidHexCharacter-clause-read
+returns-in-Err-InvalidHexCharacter-clause-read c = let b = bad_at c in (b.none, b.bad, b.within)
 
-pub returns : goal.returns
-returns c =
-    let n : length c.as_bytes-digits.result.now ≤ 2 * c.loop-at.at = omega arith in
-    subst (λ (t : List ℕ). hex_bytes t ≡ Some (vec_items c.loop-at.bytes)) (take_all (2 * c.loop-at.at) c.as_bytes-digits.result.now n ∙ c.as_bytes-digits.ensures.value) c.loop-at.invariant
+pub returns-in-Err-InvalidHexCharacter-clause-first : goal.returns-in-Err-InvalidHexCharacter-clause-first
+returns-in-Err-InvalidHexCharacter-clause-first c = (bad_at c).before
+
+pub returns-in-Err-OddLength-clause-read : goal.returns-in-Err-OddLength-clause-read
+returns-in-Err-OddLength-clause-read c = let n = c.in-Err-OddLength in fault_told c.args.text.now n.field-0 OddLength n.field-0-is n.ensures.err

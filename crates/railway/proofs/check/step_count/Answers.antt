@@ -1,12 +1,6 @@
-use Rattle.std.proofs.Common.{arith}
+use Rattle.std.proofs.Common.{◌≡◌, sum_by, rules, sym, ◌∙◌}
 use Rattle.railway.proofs.check.step_count.Goals as goal
-use Rattle.railway.proofs.Trips.{sum_step, sum_end}
-
-pub loop-at-init : goal.loop-at-init
-loop-at-init c = (omega arith, omega arith)
-
-pub loop-at-preserved : goal.loop-at-preserved
-loop-at-preserved c = (sum_step c.args.trains.now c.loop-at.at _ (omega arith) c.loop-at.count c.loop-at.invariant.0, omega arith)
+use Rattle.railway.proofs.Sums.{steps_of_is}
 
 pub returns : goal.returns
-returns c = sum_end c.args.trains.now c.loop-at.at c.loop-at.count (omega arith) c.loop-at.invariant.0
+returns c = let e : c.sum.result ≡ sum_by (λ t. t.steps) c.args.trains.now = search rules in e ∙ sym (steps_of_is c.args.trains.now)

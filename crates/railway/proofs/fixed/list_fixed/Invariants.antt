@@ -1,12 +1,11 @@
-use Rattle.std.proofs.Common.{◌*◌, ◌≤◌, ◌++◌, drop}
-use Rattle.graph.specs.Views.{arc_of}
-use Rattle.trains.specs.Railway.{trips, all_arcs}
-use Rattle.railway.specs.Tables.{arcs_in}
+use Rattle.std.proofs.Common.{◌≡◌, ◌+◌, ◌*◌, ◌≤◌, ◌++◌, length}
+use Rattle.trains.specs.Railway.{all_arcs}
+use Rattle.railway.specs.Tables.{listed, arcs_in}
+use Rattle.railway.specs.Trips.{trips_left}
 use Rattle.railway.proofs.fixed.list_fixed.Given as goal
-use Rattle.railway.proofs.Fillings.{Filling}
 
-abbrev pub invariant-loop-at : goal.invariant-loop-at
-invariant-loop-at l =
-    Filling arc_of 216 l.table l.count (all_arcs l.end (drop l.at (trips 1 l.trains l.steps)))
-    (arcs_in 0 l.initial.table ++ all_arcs l.end (trips 1 l.trains l.steps))
-    × (l.count ≤ 18 * l.at)
+abbrev pub invariant-loop-trip : goal.invariant-loop-trip
+invariant-loop-trip l = record {
+  room : length (listed l.arcs) + 18 * length (trips_left l.trip-iterator) ≤ 216;
+  moved : arcs_in l.arcs ++ all_arcs l.end (trips_left l.trip-iterator) ≡ all_arcs l.end (trips_left l.fn.trips);
+}

@@ -1,11 +1,11 @@
-use Rattle.std.proofs.Common.{◌++◌, drop}
-use Rattle.trains.specs.Railway.{trips, all_pairs}
+use Rattle.std.proofs.Common.{◌≡◌, ◌++◌, length}
+use Rattle.trains.specs.Railway.{all_pairs}
 use Rattle.railway.specs.Tables.{pairs_in}
+use Rattle.railway.specs.Trips.{trips_left}
 use Rattle.railway.proofs.pairs.list_pairs.Given as goal
-use Rattle.graph.specs.Views.{pair_of}
-use Rattle.railway.proofs.Fillings.{Filling}
 
-abbrev pub invariant-loop-at : goal.invariant-loop-at
-invariant-loop-at l =
-    Filling pair_of 60 l.table l.count (all_pairs (drop l.at (trips 1 l.trains l.steps)))
-    (pairs_in 0 l.initial.table ++ all_pairs (trips 1 l.trains l.steps))
+abbrev pub invariant-loop-one : goal.invariant-loop-one
+invariant-loop-one l = pairs_in l.pairs ++ all_pairs (trips_left l.later) ≡ all_pairs (trips_left l.fn.trips)
+
+abbrev pub decreases-loop-one : goal.decreases-loop-one
+decreases-loop-one l = length (trips_left l.later)

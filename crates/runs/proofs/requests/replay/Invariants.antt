@@ -7,5 +7,10 @@ use Rattle.runs.proofs.requests.replay.Given as goal
 
 abbrev pub invariant-loop-request : goal.invariant-loop-request
 invariant-loop-request g l =
-    Replayed (λ s. (g.S.CaseSource.means s).case) g.V.TimeMeasure.rank g.V.TimeMeasure.ranking g.B.Bound.meaning l.initial.planner.source l.initial.planner.bound (calls_of (length l.initial.times) (take l.request-index l.requests)) l.planner ×
-    TimesLeft g.V.TimeMeasure.rank (g.S.CaseSource.means l.initial.planner.source).case (last_shown (g.S.CaseSource.means l.initial.planner.source).case g.V.TimeMeasure.ranking (g.B.Bound.meaning l.initial.planner.bound) None (opened (g.S.CaseSource.means l.initial.planner.source).case) (calls_of (length l.initial.times) (take l.request-index l.requests))) l.initial.times l.times
+    let means = λ (s : g.row.S.Denot). (g.S.CaseSource.means s) in
+    let c = means l.initial.planner.source in
+    let calls = calls_of (length l.initial.times) (take l.request-index l.requests) in
+    record {
+      ran : Replayed means g.V.TimeMeasure.rank g.V.TimeMeasure.ranking g.B.Bound.meaning l.initial.planner.source l.initial.planner.bound calls l.planner;
+      left : TimesLeft g.V.TimeMeasure.rank c (last_shown c g.V.TimeMeasure.ranking (g.B.Bound.meaning l.initial.planner.bound) None (opened c) calls) l.initial.times l.times;
+    }

@@ -1,37 +1,22 @@
-use Rattle.std.proofs.Common.{◌<◌, length, sym, subst, arith}
-use Rattle.std.proofs.lemmas.Result.{IfOk-from_err}
+use Rattle.std.proofs.Common.{◌<◌, length, arith}
 use Rattle.graph.specs.Graph.{selection_of}
 use Rattle.graph.specs.Times.{least_times}
 use Rattle.graph.proofs.Raise.{times_laws}
-use Rattle.session.proofs.Refilled.{times_some, times_none}
-use Rattle.session.specs.Open.{TimesFound}
+use Rattle.session.proofs.Refilled.{times_found}
 use Rattle.session.proofs.cases.times_of.Goals as goal
-use Rattle.session.proofs.cases.times_of.Goals.{then-found, else-found}
 
-pub returns-in_err-times : goal.returns-in_err-times
-returns-in_err-times g c =
-    let m = g.S.CaseSource.means c.args.source.now in
-    record {
-      found = IfOk-from_err c.from_residual.result _ c.from_residual.ensures.0;
-      law = times_laws g.V.TimeMeasure.ranking m.case (selection_of m.case.pairs c.args.arms.now) m.within;
-    }
+pub returns-in_err-times-clause-law : goal.returns-in_err-times-clause-law
+returns-in_err-times-clause-law g c =
+    let m = g.S.CaseSource.means c.args.source.now in times_laws g.V.TimeMeasure.ranking m (selection_of m.pairs c.args.arms.now) (g.met.S.CaseSource.within c.args.source.now)
 
-pub returns : goal.returns
-returns g c =
+pub returns-clause-found : goal.returns-clause-found
+returns-clause-found g c =
     let m = g.S.CaseSource.means c.args.source.now in
     let rank = g.V.TimeMeasure.rank in
     let r = g.V.TimeMeasure.ranking in
-    let s = selection_of m.case.pairs c.args.arms.now in
-    let o = least_times r m.case s in
-    let law = times_laws r m.case s m.within in
+    let s = selection_of m.pairs c.args.arms.now in
     let told = c.in-Ok.ensures.told in
-    let room : m.case.end < length c.as_mut_slice.result.now = omega (arith, c.as_mut_slice.ensures.len, c.in_ok-times.ensures, c.end.ensures) in
-    record {
-      found = elim c.if-found.branch [
-        | then-found w ↦ subst (TimesFound rank o) (sym w.result-is)
-            (times_some rank r m.case s c.in-Ok.found o law c.in_ok-times.times c.least_times.new.times (told.answer room) w.if-found.true
-            (omega (arith, c.in_ok-times.ensures, c.end.ensures)) (omega (arith, c.least_times.auto.times, c.as_mut_slice.ensures.len)) (told.times room))
-        | else-found w ↦ subst (TimesFound rank o) (sym w.result-is) (times_none rank r m.case s c.in-Ok.found o (told.answer room) w.if-found.false)
-      ];
-      law = law;
-    }
+    let room : m.end < length c.as_mut_slice.result.now = omega (arith, c.as_mut_slice.ensures.len, c.in_ok-times.ensures.len, c.end.ensures) in
+    rw c.then_some.ensures
+    (times_found rank r m s c.in-Ok.found (least_times r m s) (times_laws r m s (g.met.S.CaseSource.within c.args.source.now)) c.in_ok-times.times c.least_times.new.times (told.answer room)
+    (omega (arith, c.in_ok-times.ensures.len, c.end.ensures)) (omega (arith, c.least_times.auto.times, c.as_mut_slice.ensures.len)) (told.times room))

@@ -2,5 +2,5 @@ use Rattle.messages.proofs.Messages.{takes_limits}
 use Rattle.sources.specs.Lists.{listed}
 use Rattle.sources.proofs.listed.check_listed.Goals as goal
 
-pub returns : goal.returns
-returns c = record { told = c.check_case.ensures; law = takes_limits (listed c.args.end c.args.fixed.now c.args.pairs.now) }
+pub returns-clause-law : goal.returns-clause-law
+returns-clause-law c = takes_limits (listed c.args.end c.args.fixed.now c.args.pairs.now)

@@ -1,17 +1,10 @@
-use Rattle.std.proofs.Common.{sym, arith}
+use Rattle.std.proofs.Common.{arith}
 use Rattle.graph.specs.Views.{arc_found}
-use Rattle.sources.proofs.Writing.{put_nothing, pairs_step, pairs_end}
+use Rattle.sources.proofs.Writing.{pairs_step}
 use Rattle.sources.proofs.write.put_pairs.Goals as goal
-
-pub loop-pair-init : goal.loop-pair-init
-loop-pair-init g c = sym (put_nothing c.args.out.now c.args.from)
 
 pub loop-pair-preserved : goal.loop-pair-preserved
 loop-pair-preserved g c =
-    pairs_step (g.S.CaseSource.means c.args.source.now).case.pairs c.args.out.now c.loop-pair.out c.put_arc.new.out c.put_arc-in-loop-pair.new.out c.args.from c.loop-pair.pair
+    pairs_step (g.S.CaseSource.means c.args.source.now).pairs c.args.out.now c.loop-pair.out c.put_arc.new.out c.put_arc-in-loop-pair.new.out c.args.from c.loop-pair.pair
     (arc_found c.arm.result) (arc_found c.arm-in-loop-pair.result) c.arm.ensures c.arm-in-loop-pair.ensures
     (omega (arith, c.pair_count-pair-end.ensures, c.loop-pair-test.true)) c.requires c.loop-pair.invariant c.put_arc.ensures c.put_arc-in-loop-pair.ensures
-
-pub returns : goal.returns
-returns g c =
-    pairs_end (g.S.CaseSource.means c.args.source.now).case.pairs c.args.out.now c.loop-pair.out c.args.from c.loop-pair.pair (omega (arith, c.pair_count-pair-end.ensures, c.loop-pair-test.false)) c.loop-pair.invariant

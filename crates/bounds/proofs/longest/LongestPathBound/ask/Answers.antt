@@ -8,13 +8,13 @@ pub returns-in-Ok-true : goal.returns-in-Ok-true
 returns-in-Ok-true g c =
     let m = g.S.CaseSource.means c.args.source.now in
     let r = g.V.TimeMeasure.ranking in
-    let s = selection_of m.case.pairs c.args.arms.now in
+    let s = selection_of m.pairs c.args.arms.now in
     let told = c.in-Ok-true.ensures.told in
     record {
       answer = λ h.
           let e = told.answer h in
-          let b : true ≡ is_some (least_times r m.case s) = cc in
-          longest_read g.V.TimeMeasure.rank c.least_times.new.times r m.case s c.end.result c.index-times-end.result m.within b (told.times h) c.end.ensures c.index-times-end.is;
+          let b : true ≡ is_some (least_times r m s) = cc in
+          longest_read g.V.TimeMeasure.rank c.least_times.new.times r m s c.end.result c.index-times-end.result (g.met.S.CaseSource.within c.args.source.now) b (told.times h) c.end.ensures c.index-times-end.is;
       same = refl;
       behind = told.behind;
       short = λ h. let e = (told.short h).0 in let z : ◌≡◌ {A = ℕ} 0 1 = cc in absurd (omega arith);

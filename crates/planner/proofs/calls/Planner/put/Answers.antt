@@ -1,12 +1,10 @@
-use Rattle.std.proofs.Common.{length, refl, ap, ◌∙◌}
+use Rattle.std.proofs.Common.{length, take, refl, ap, ◌∙◌}
 use Rattle.search.specs.Search.{fresh}
-use Rattle.planner.proofs.Arms.{small_set, take_set}
+use Rattle.planner.proofs.Joining.{take_set}
 use Rattle.planner.proofs.calls.Planner.put.Goals as goal
-
-pub fresh-self-requires : goal.fresh-self-requires
-fresh-self-requires g c = small_set c.args.self.now.table.holds c.args.pair c.args.arm c.requires.arm c.args.self.now.table.holds_small
 
 pub returns : goal.returns
 returns g c =
-    let n = length (g.S.CaseSource.means c.args.self.now.source).case.pairs in
-    record { state = c.fresh-self.ensures n ∙ ap fresh (take_set n c.args.self.now.table.holds c.args.pair c.args.arm); source = refl; bound = refl }
+    let p = c.args.self.now in
+    let n = length (g.S.CaseSource.means p.source).pairs in
+    record { state = c.fresh-self.ensures n ∙ ap (λ s. fresh (take n s)) c.with.ensures ∙ ap fresh (take_set n p.table.holds.places c.args.pair c.args.arm); source = refl; bound = refl }

@@ -1,17 +1,21 @@
-use Rattle.std.proofs.Common.{vec_items, sym, refl}
+use Rattle.std.proofs.Common.{◌≡◌, vec_items, sym, refl, rules}
+use Rattle.messages.specs.Message.{message}
+use Rattle.trains.specs.Railway.{railway_case}
 use Rattle.session.proofs.Railed.{railed_taken, railed_case}
 use Rattle.session.proofs.open.OpenCase.of_railway.Goals as goal
 
 pub invariant_of-result : goal.invariant_of-result
-invariant_of-result c = record {
-  taken = railed_taken c.args.trains.now c.over.result.trains.now c.args.steps.now c.over.result.steps.now (vec_items c.in_ok-message.message) c.over.ensures.trains c.over.ensures.steps
-      c.in_ok-message.ensures;
-}
+invariant_of-result c =
+    let ts = c.args.trains.now in
+    let ss = c.args.steps.now in
+    let ms = vec_items c.in_ok-message.message in
+    let written : ms ≡ message (railway_case ts ss) = search rules in
+    record { taken = railed_taken ts ss ms written }
 
 pub returns : goal.returns
-returns c = (
-  sym c.in_ok-check_railway.ensures.told,
-  railed_case c.args.trains.now c.over.result.trains.now c.args.steps.now c.over.result.steps.now (vec_items c.in_ok-message.message) c.over.ensures.trains c.over.ensures.steps
-      c.in_ok-message.ensures,
-  refl,
-)
+returns c =
+    let ts = c.args.trains.now in
+    let ss = c.args.steps.now in
+    let ms = vec_items c.in_ok-message.message in
+    let written : ms ≡ message (railway_case ts ss) = search rules in
+    (sym c.in_ok-check_railway.ensures.told, railed_case ts ss ms written, refl)

@@ -1,5 +1,0 @@
-use Rattle.graph.proofs.Rounding.{Rounding}
-use Rattle.graph.proofs.times.raise_round.Given as goal
-
-abbrev pub invariant-loop-at : goal.invariant-loop-at
-invariant-loop-at g l = Rounding g.V.TimeMeasure.rank g.V.TimeMeasure.ranking (g.S.CaseSource.means l.source).case l.arms l.initial.times l.times l.changed l.at
