@@ -17,6 +17,7 @@ fn is_undecided(arm: u8) -> bool
 }
 
 /// The longest path with an arm of a pair, for which the arms are lent to a trial.
+// Kept: a pair is below 60 and an arm at most 2, here and in the planner; a type would be taken apart at each byte.
 fn with_arm<S: CaseSource, V: TimeMeasure>(
     source: &S,
     arms: &mut [u8; 60],

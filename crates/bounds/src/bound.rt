@@ -11,6 +11,7 @@ pub trait Bound: Copy {
     /// The bound of a selection, or none where no timetable keeps it. The arms may be tried with others and come back as
     /// they were. The first places of the times, one for each event, then hold anything; what lies behind stays. Handed
     /// fewer places, it answers zero and writes none.
+    // Kept: source, arms and times are lent one by one, here and in look-ahead, as a rule of the project has it.
     fn ask<S: CaseSource, V: TimeMeasure>(
         &self,
         source: &S,

@@ -62,6 +62,7 @@ impl fmt::Display for NamedBound {
 #[derive(Clone, Copy, Debug, PartialEq, Eq)]
 pub struct UnknownBound;
 
+// Kept: of a derived `Display` no clause says the words.
 impl fmt::Display for UnknownBound {
     ghost output = { λ _. Some (codes "there is no such bound") };
 

@@ -9,6 +9,7 @@ pub struct Arc {
     pub to: u16,
     pub weight: i32,
     /// 1 asks for strictly later, where the measure can tell; else 0.
+    // Kept: a byte, since an arc with another mark can be read, and is refused by that.
     pub mark: u8,
 }
 

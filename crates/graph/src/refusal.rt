@@ -2,6 +2,7 @@ ghost use Rattle.std.specs.Prelude.{◌≡◌};
 ghost use Rattle.graph.specs.Faults.{Fault};
 
 /// Why a call is refused, told by three numbers.
+// Kept: numbers, as the rules of the project tell a refusal; the faults themselves are enums.
 pub trait Refusal: Copy {
     /// The layer, the cause and the place.
     ghost told: { Self → Fault };

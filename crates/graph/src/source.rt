@@ -25,6 +25,7 @@ pub trait CaseSource {
         ensures { arc_found result ≡ slice_get (means self.now).fixed at };
 
     /// Arm 1 or 2 of a pair; none of a pair that there is not, and no other arm.
+    // Kept: an arm is a number wherever one is told, since a selection is sixty bytes, a rule of the project.
     fn arm(&self, pair: usize, arm: u8) -> Option<Arc>
         ensures { arc_found result ≡ arm_at (means self.now).pairs pair arm };
 

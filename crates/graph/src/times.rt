@@ -44,6 +44,7 @@ fn is_kept<V: TimeMeasure>(arc: Arc, times: &[V]) -> bool
 }
 
 /// A selection of a source's case: of each pair the arm that a table of arms says, if it says one.
+// Kept: with the times as a field, each step would have to say that source and arms stay, beside the room for events.
 #[derive(Clone, Copy)]
 struct Selection<'a, S> {
     source: &'a S,
@@ -78,7 +79,7 @@ impl<'a, S: CaseSource> Selection<'a, S> {
         ensures { RoundRaised V.TimeMeasure.rank V.TimeMeasure.ranking (S.CaseSource.means self.now.source.now) self.now.arms.now times.old times.new result }
     {
         let mut changed = false;
-        // Kept: a source is asked for its arcs by number, so that a message is read in place and no list of arcs is made.
+        // Kept: in a chain each closure would need a clause, that its number is in range or its arc's ends are.
         for at in 0..self.place_count() {
             if let Some(arc) = self.arc_at(at) {
                 changed |= raise_by(arc, times);
@@ -144,6 +145,7 @@ pub fn clear_times<S: CaseSource, V: TimeMeasure>(
 
 /// Works out the least times of a selection, and says whether there are any. The first places, one for each event, then
 /// hold them, or zeros where there are none; what lies behind stays. Handed fewer places, it writes nothing.
+// Kept: a flag is the answer, since the times themselves stand in the caller's memory, a rule of the project.
 #[tactic(auto, using(crate::proofs::Raise::times_laws))]
 pub fn least_times<S: CaseSource, V: TimeMeasure>(
     source: &S,

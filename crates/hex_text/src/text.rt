@@ -4,7 +4,7 @@ ghost use Rattle.std.proofs.Math.Bool.{not};
 ghost use Rattle.hex_text.specs.Hex.{hex_bytes, hex_text, HexRead, AfterDigits, Differs};
 
 use hex::FromHexError;
-use std::alloc::{AllocError, Global};
+use std::alloc::{AllocError, AllocFailed, Global};
 use thiserror::Error;
 
 /// Why a text is no row of bytes in hexadecimal.
@@ -19,6 +19,18 @@ pub enum HexFault {
     /// There is no memory for the bytes.
     #[error("there is no memory")]
     Memory,
+}
+
+// Kept: no variant carries what a derived `From` would be made of.
+impl<T: Drop> From<AllocFailed<T>> for HexFault {
+    ghost use Rattle.std.specs.Prelude.{◌≡◌};
+    ghost use Rattle.hex_text.specs.declared.text.HexFault.{HexFault};
+
+    ghost from_gives = { λ _ r. r ≡ HexFault.Memory };
+
+    fn from(_refused: AllocFailed<T>) -> HexFault {
+        HexFault::Memory
+    }
 }
 
 /// Reads bytes written in hexadecimal, two digits for each.

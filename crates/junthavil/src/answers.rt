@@ -2,7 +2,7 @@
 use super::command::{Command, Measure, Question};
 use super::faults::Fault;
 use super::lines::{OrNone, Row, Timetable, Trains};
-use super::planning::{Desk, message_lines};
+use super::planning::{Desk, Planning, message_lines};
 use bounds::NamedBound;
 use graph::TimeMeasure;
 use hex_text::{first_difference, write_hex};
@@ -119,10 +119,7 @@ impl Session {
     }
 
     fn case(&self) -> Result<&OpenCase, Fault> {
-        match &self.open {
-            Some(opened) => Ok(&opened.case),
-            None => Err(Fault::NoCase),
-        }
+        Ok(&self.open.as_ref().ok_or(Fault::NoCase)?.case)
     }
 
     /// Opens a case.
@@ -140,10 +137,7 @@ impl Session {
 
     /// The railway that was begun.
     fn begun(&mut self) -> Result<&mut Trains, Fault> {
-        match &mut self.begun {
-            Some(railway) => Ok(railway),
-            None => Err(Fault::NoRailway),
-        }
+        self.begun.as_mut().ok_or(Fault::NoRailway)
     }
 
     fn end(&mut self) -> Result<Answer, Fault> {
@@ -166,9 +160,7 @@ impl Session {
     }
 
     fn choose(&mut self, arms: &[u8]) -> Result<String, Fault> {
-        let Some(opened) = &mut self.open else {
-            return Err(Fault::NoCase);
-        };
+        let opened = self.open.as_mut().ok_or(Fault::NoCase)?;
         opened.case.choose(arms)?;
         let row = Row(Some(opened.case.arms()));
         Ok(format!(in self.heap; "arms{row}\n")?)
@@ -195,12 +187,8 @@ impl Session {
     }
 
     fn by_train(&self) -> Result<String, Fault> {
-        let Some(opened) = &self.open else {
-            return Err(Fault::NoCase);
-        };
-        let Some(railway) = &opened.railway else {
-            return Err(Fault::NotARailway);
-        };
+        let opened = self.open.as_ref().ok_or(Fault::NoCase)?;
+        let railway = opened.railway.as_ref().ok_or(Fault::NotARailway)?;
         let Some(times) = opened.case.times::<Seconds>(self.heap)? else {
             return Ok(String::from_str(self.heap, "times none\n")?);
         };
@@ -225,8 +213,13 @@ impl Session {
         }
     }
 
-    /// What a command leads to where no planner answers it.
-    pub(crate) fn answer(&mut self, command: Command) -> Result<Answer, Fault> {
+    /// What a command leads to; what concerns a planner is answered by this one.
+    pub(crate) fn answer<P: Planning>(
+        &mut self,
+        rt: &HostRuntime,
+        planner: &mut P,
+        command: Command,
+    ) -> Result<Answer, Fault> {
         let text = match command {
             Command::Message(bytes) => return self.take(bytes),
             Command::End => return self.end(),
@@ -253,7 +246,7 @@ impl Session {
                 message_lines(self.heap, budget, bytes.as_slice())
             }
             Command::Help => Ok(String::from_str(self.heap, help())?),
-            Command::Planner(_) => Err(Fault::NoPlanner),
+            Command::Planner(asked) => planner.answer(rt, asked),
         };
         Ok(Answer::Text(text?))
     }

@@ -114,6 +114,7 @@ struct Words<'a> {
 
 impl<'a> Words<'a> {
     /// The next word; where there is none, one without letters, which is no number and no name.
+    // Kept: of an Option, each reader would have to make the error that its parser makes of no letters.
     fn word(&mut self) -> &'a str {
         self.left.next().unwrap_or("")
     }
@@ -149,6 +150,7 @@ impl<'a> Words<'a> {
     }
 
     /// A train as its line has it. One whose kind is none enters past the limit, so that the check refuses the train.
+    // Kept: a number stands for no kind, since the rules have the check refuse such a train in its turn.
     fn train(&mut self) -> Result<Train, Misread> {
         let kind = self.kind()?;
         let entry = self.number(u32::MAX)?;
@@ -181,10 +183,8 @@ impl<'a> Words<'a> {
 
     /// How many places are handed in, where that is said.
     fn places(&mut self) -> Result<Option<u16>, Misread> {
-        match self.left.next() {
-            Some(word) => Ok(Some(word.parse().ok().ok_or(Misread::Places)?)),
-            None => Ok(None),
-        }
+        let places = self.left.next().map(|word| word.parse());
+        places.transpose().map_err(|_| Misread::Places)
     }
 
     /// The call of a word and of those that follow it. A pair or an arm that is too large is no pair or arm either.

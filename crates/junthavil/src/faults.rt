@@ -4,7 +4,7 @@ use graph::Refusal;
 use messages::MessageFault;
 use search::{PlanMessageFault, PlannerFault};
 use session::{ArmsFault, RailwayRefusal};
-use std::alloc::{AllocError, AllocFailed};
+use std::alloc::AllocError;
 use std::fmt;
 use std::fmt::Display;
 use thiserror::Error;
@@ -58,26 +58,15 @@ pub(crate) enum Fault {
     #[error("{0}")]
     Refused(Refused),
     #[error("memory allocation failed")]
-    Memory,
+    Memory(#[from(alloc)] AllocError),
 }
 
-impl From<AllocError> for Fault {
-    fn from(_error: AllocError) -> Fault {
-        Fault::Memory
-    }
-}
-
-impl<T: Drop> From<AllocFailed<T>> for Fault {
-    fn from(_refused: AllocFailed<T>) -> Fault {
-        Fault::Memory
-    }
-}
-
+// Kept: here and below a fault is wrapped twice, by `Refused` too, and a derived `From` wraps once.
 impl From<RailwayRefusal> for Fault {
     fn from(refusal: RailwayRefusal) -> Fault {
         match refusal {
             RailwayRefusal::Railway(fault) => Fault::Refused(Refused::Railway(fault)),
-            RailwayRefusal::Memory => Fault::Memory,
+            RailwayRefusal::Memory => Fault::Memory(AllocError),
         }
     }
 }

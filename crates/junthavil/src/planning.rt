@@ -53,8 +53,8 @@ fn progress<V: TimeMeasure + Display>(
     };
 }
 
-// Kept: a search answers plain numbers and flags, one tuple for each slice.
 /// Searches, in slices where the budget is large, and answers as one search does that examines as many nodes.
+// Kept: slices are counted, so that the loop ends, and each answers plain numbers and flags, as a search does.
 fn search_slices<V: TimeMeasure + Display>(
     rt: &HostRuntime,
     planner: &mut Planner<Message, V, NamedBound>,
@@ -139,6 +139,7 @@ impl<'a, V: TimeMeasure + Display> Desk<'a, V> {
         search_slices(rt, &mut self.planner, budget, &mut times[..places])
     }
 
+    // Kept: beside `make` of runs, since each call has words of its own, and a search goes in slices.
     fn call(
         &mut self,
         rt: &HostRuntime,

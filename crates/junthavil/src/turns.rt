@@ -38,8 +38,7 @@ fn answer<P: Planning>(
 ) -> Result<Answer, Fault> {
     match Command::parse(rt.alloc(), line)? {
         None => Ok(Answer::Nothing),
-        Some(Command::Planner(asked)) => Ok(Answer::Text(planner.answer(rt, asked)?)),
-        Some(command) => session.answer(command),
+        Some(command) => session.answer(rt, planner, command),
     }
 }
 
@@ -57,7 +56,7 @@ fn tell(
             return Ok(Some(After::Case));
         }
         Ok(Answer::Opens(opening)) => return Ok(Some(After::Open(opening))),
-        Err(Fault::Memory) => return Err(Fault::Memory.into()),
+        Err(Fault::Memory(error)) => return Err(Fault::Memory(error).into()),
         Err(Fault::Refused(refused)) => println!(rt; "{refused}")?,
         Err(fault) => println!(rt; "error line {number}: {fault}")?,
     }
@@ -90,6 +89,7 @@ impl<R: BufRead + Drop> Talk<'_, R> {
     }
 
     /// Opens a planner, and answers lines with it.
+    // Kept: a measure is a type, which is chosen where a planner opens and where a session is asked in one.
     fn opened(&mut self, opening: &Opening) -> anyhow::Result<After> {
         let message = opening.message.as_slice();
         let bound = opening.bound;

@@ -31,6 +31,7 @@ impl OrderedSeconds {
     }
 }
 
+// Kept: zero, sum and comparison are one line each here and for seconds; a type between would be longer than both.
 impl TimeMeasure for OrderedSeconds {
     ghost rank = { λ s. s.rank };
 

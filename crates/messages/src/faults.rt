@@ -5,9 +5,12 @@ ghost use Rattle.messages.specs.declared.faults.MessageFault.{MessageFault};
 use graph::Refusal;
 use thiserror::Error;
 
+const MESSAGE_LAYER: u8 = 1;
+
 const CASE_LAYER: u8 = 2;
 
-/// Why a case is refused. An arc is named by its number: the fixed arcs first, then each pair's arms.
+/// Why a case is refused. An arc is named by its number: the fixed arcs first, then each pair's arms. The place is the
+/// field of a size, in its order, or the arc.
 #[derive(Clone, Copy, Debug, PartialEq, Eq, Error)]
 pub enum CaseFault {
     /// There is no event after the start, or there are too many.
@@ -59,7 +62,8 @@ impl Refusal for CaseFault {
     }
 }
 
-/// Why a message is refused, or is not written.
+/// Why a message is refused, or is not written. The place is a byte of the message, a number of bytes, or where the case's
+/// fault is.
 #[derive(Clone, Copy, Debug, PartialEq, Eq, Error)]
 pub enum MessageFault {
     /// The message ends before its head does, after so many bytes.
@@ -89,7 +93,7 @@ impl Refusal for MessageFault {
     fn layer(self) -> u8 {
         match self {
             MessageFault::Case(fault) => fault.layer(),
-            _ => 1,
+            _ => MESSAGE_LAYER,
         }
     }
 
@@ -118,6 +122,7 @@ impl Refusal for MessageFault {
     }
 }
 
+// Kept: a derived `From` says nothing of the variant, which clauses above name.
 impl From<CaseFault> for MessageFault {
     ghost from_gives = { λ fault r. r ≡ MessageFault.Case fault };
 

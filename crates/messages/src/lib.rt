@@ -1,4 +1,5 @@
-//! The format of messages, as definitions with their laws (specs and proofs), and the faults by which a case or a message is refused.
+//! The format of messages, as definitions with their laws (specs and proofs), and the faults by which a case or a message
+//! is refused.
 
 #![tactic(auto)]
 

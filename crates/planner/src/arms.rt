@@ -4,6 +4,7 @@ ghost use Rattle.search.specs.Search.{free};
 ghost use Rattle.planner.specs.Small.{small};
 
 /// An arm of each of sixty pairs, 0 for none.
+// Kept: bytes, since a bound is lent the sixty bytes themselves, a rule of the project.
 #[derive(Clone, Copy)]
 pub(crate) struct Arms {
     pub places: [u8; 60],

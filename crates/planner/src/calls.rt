@@ -70,6 +70,7 @@ impl<S: CaseSource + Copy, V: TimeMeasure, B: Bound> Planner<S, V, B> {
     }
 
     /// Releases a pair that is held. The search begins anew; the other holds stay.
+    // Kept: beside `hold`, since each of the two refuses what the other takes.
     pub fn release(&mut self, pair: usize) -> Result<(), PlannerFault>
         ensures { Made S.CaseSource.means V.TimeMeasure.rank V.TimeMeasure.ranking B.Bound.meaning self.old self.new (to_release pair) (planner_told result) }
     {

@@ -72,6 +72,7 @@ impl Node {
         ensures { result.places ≡ Search.joined holds.now.places (node_of self.now) }
     {
         let mut places = holds.places;
+        // Kept: a proof speaks of the arms that are left, a slice; an iterator over them would be no shorter here.
         let mut rest = &self.arms.places[..self.depth];
         for place in &mut places {
             if *place == 0 {

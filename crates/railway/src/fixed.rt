@@ -26,6 +26,7 @@ impl<'a> Trip<'a> {
         ensures is { result ≡ running_sum self.now.steps.now }
         ensures few { result ≤ 65535 * 16 }
     {
+        // Kept: as a chain with `sum`, the bound did not prove.
         let mut sum = 0;
         for step in self.steps {
             sum += u32::from(step.running);

@@ -12,6 +12,7 @@ use graph::{Arc, Pair};
 use trains::{Kind, Step};
 
 /// The arm by which a train of one kind goes before one of another.
+// Kept: here and below an event is bounded for one addition each; a type for it would be longer than the clauses.
 fn arm(first: Kind, begins: u16, then: Kind, then_begins: u16) -> Arc
     requires { begins ≤ 1000 }
     ensures { arc_of result ≡ arc (begins + 1) then_begins (pos (separation first then)) 1 }

@@ -14,6 +14,7 @@ use graph::{Arc, CaseSource, Pair};
 use trains::{RailwayFault, Step, Train};
 
 /// Of the two tables of a railway only that of the pairs can be full.
+// Kept: no variant carries what a derived `From` would be made of.
 impl From<Full> for RailwayFault {
     ghost use Rattle.trains.specs.declared.faults.RailwayFault.TheVariants.{TooManyPairs};
 
@@ -26,6 +27,7 @@ impl From<Full> for RailwayFault {
 
 /// Checks a railway: the number of trains, each train, the number of steps, each step, the number of pairs. A timetable
 /// keeps the case of a railway that passes exactly where the railway can run by it.
+// Kept: trains and steps are handed in one by one, here and below, a public signature.
 pub fn check_railway(trains: &[Train], steps: &[Step]) -> Result<(), RailwayFault>
     ensures told { railway_told result ≡ railway_fault trains.now steps.now }
     ensures law { RunsLaw trains.now steps.now }
@@ -73,6 +75,7 @@ impl<'a> Railway<'a> {
         ensures trains { result.trains.now ≡ trains.now }
         ensures steps { result.steps.now ≡ steps.now }
     {
+        // Kept: not `unwrap_or`, since empty tables may stand for a railway only where its check has refused it.
         match Railway::read(trains, steps) {
             Ok(railway) => railway,
             Err(_) => Railway {

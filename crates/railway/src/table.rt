@@ -3,15 +3,15 @@ ghost use Rattle.std.specs.Prelude.{◌≤◌};
 use std::alloc::AllocError;
 
 /// A list of at most `N` entries in memory of its own.
-// Kept: an array with a length, since a source of a case has no heap and is copied; the kit's list of fixed memory isn't.
+// Kept: an array with a length, since a source has no heap and is copied; the kit's list of fixed memory isn't.
+#[derive(Copy)]
 pub(crate) struct Table<T, const N: usize> {
     entries: [T; N],
     len: usize,
     ghost few: { len ≤ N },
 }
 
-impl<T: Copy, const N: usize> Copy for Table<T, N> {}
-
+// Kept: no derive writes `Clone` over a ghost field in a struct with type parameters.
 impl<T: Copy, const N: usize> Clone for Table<T, N> {
     ghost use Rattle.std.specs.Prelude.{◌≡◌, ⊤};
 

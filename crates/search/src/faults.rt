@@ -74,6 +74,7 @@ pub enum PlanMessageFault {
     Planner(PlannerFault),
 }
 
+// Kept: the two faults are of two types, so each number is handed on by a match.
 impl Refusal for PlanMessageFault {
     ghost told = { of_plan_message };
 
@@ -99,6 +100,7 @@ impl Refusal for PlanMessageFault {
     }
 }
 
+// Kept: a derived `From` says nothing of the variant, which a clause names; so below.
 impl From<MessageFault> for PlanMessageFault {
     ghost from_gives = { λ fault r. r ≡ PlanMessageFault.Message fault };
 

@@ -7,7 +7,7 @@ ghost use Rattle.session.specs.Open.{TimesFound};
 
 use bounds::Bound;
 use graph::{CaseSource, TimeMeasure, least_times};
-use sources::{Message, write_message};
+use sources::{Message, message_len, write_message};
 use std::alloc::{AllocError, Global};
 
 /// The least times of a selection of any source's case, one for each event, or none.
@@ -20,13 +20,12 @@ pub(crate) fn times_of<S: CaseSource, V: TimeMeasure>(
     ensures law { TimesLaw V.TimeMeasure.ranking (S.CaseSource.means source.now) (selection_of (S.CaseSource.means source.now).pairs arms.now) }
 {
     let mut times = vec![in heap; V::zero(); source.end() + 1]?;
-    match least_times(source, arms, times.as_mut_slice()) {
-        Ok(found) => Ok(found.then_some(times)),
-        Err(_) => unreachable(),
-    }
+    let found = least_times(source, arms, times.as_mut_slice()).unwrap();
+    Ok(found.then_some(times))
 }
 
 /// What a bound answers about a selection of any source's case: a value, or none.
+// Kept: beside `times_of`; the memory for times is the one line that both have.
 pub(crate) fn bound_of<S: CaseSource, V: TimeMeasure, B: Bound>(
     heap: Global,
     source: &S,
@@ -44,12 +43,9 @@ pub(crate) fn bound_of<S: CaseSource, V: TimeMeasure, B: Bound>(
 pub(crate) fn message_of<S: CaseSource>(heap: Global, source: &S) -> Result<Vec<u8>, AllocError>
     ensures { IfOk result (λ v. v.items ≡ message (S.CaseSource.means source.now)) }
 {
-    let needed = 10 + 9 * source.fixed_count() + 18 * source.pair_count();
-    let mut bytes = vec![in heap; 0; needed]?;
-    match write_message(source, bytes.as_mut_slice()) {
-        Ok(_) => Ok(bytes),
-        Err(_) => unreachable(),
-    }
+    let mut bytes = vec![in heap; 0; message_len(source)]?;
+    write_message(source, bytes.as_mut_slice()).unwrap();
+    Ok(bytes)
 }
 
 /// A message, written again: an accepted one byte for byte, and in the place of a refused one that of the empty case.

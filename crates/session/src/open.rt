@@ -13,7 +13,7 @@ use super::cases::{bound_of, message_of, rewritten, times_of};
 use bounds::Bound;
 use graph::{CaseSource, TimeMeasure};
 use messages::MessageFault;
-use railway::{Railway, check_railway};
+use railway::Railway;
 use sources::{Message, check_message};
 use std::alloc::{AllocError, Global};
 use std::fmt;
@@ -29,6 +29,10 @@ pub struct CaseSize {
 }
 
 impl fmt::Display for CaseSize {
+    ghost use Rattle.std.specs.Prelude.{◌++◌, Some, codes, decimal};
+
+    ghost output = { λ s. Some (codes "events " ++ decimal s.end ++ codes " fixed " ++ decimal s.fixed ++ codes " pairs " ++ decimal s.pairs) };
+
     fn fmt<W: fmt::Write>(&self, f: &mut fmt::Formatter<W>) -> fmt::Result {
         let CaseSize { end, fixed, pairs } = *self;
         write!(f, "events {end} fixed {fixed} pairs {pairs}")
@@ -54,6 +58,7 @@ pub enum RailwayRefusal {
     Memory,
 }
 
+// Kept: a derived `From` says nothing of the variant, which a clause names; the next one has nothing to carry.
 impl From<RailwayFault> for RailwayRefusal {
     ghost from_gives = { λ fault r. r ≡ RailwayRefusal.Railway fault };
 
@@ -70,8 +75,8 @@ impl From<AllocError> for RailwayRefusal {
     }
 }
 
-// Kept: its clauses name the fields, since a model would forget that the vector itself is kept.
 /// A case that was taken, as the message that it came in, and the arms that are chosen of its pairs.
+// Kept: its clauses name the fields, since a model would forget that the vector itself is kept.
 #[derive(Drop)]
 pub struct OpenCase {
     message: Vec<u8>,
@@ -119,12 +124,19 @@ impl OpenCase {
     ) -> Result<OpenCase, RailwayRefusal>
         ensures { elim result [ Ok o ↦ (railway_fault trains.now steps.now ≡ None) × (case_of o ≡ railway_case trains.now steps.now) × (o.arms ≡ replicate 60 0) | Err f ↦ RailwayRefused (railway_fault trains.now steps.now) f ] }
     {
-        check_railway(trains, steps)?;
-        let message = message_of(heap, &Railway::over(trains, steps))?;
+        let railway = Railway::read(trains, steps)?;
+        let message = message_of(heap, &railway)?;
         Ok(OpenCase {
             message,
             arms: [0; 60],
         })
+    }
+
+    /// The case as a source.
+    fn source(&self) -> Message<'_>
+        ensures { ⟦<Message<'static> as CaseSource>⟧.means result ≡ case_of self.now }
+    {
+        Message::over(self.message.as_slice())
     }
 
     /// How large the case is.
@@ -132,7 +144,7 @@ impl OpenCase {
         ensures is { result ≡ size_of (case_of self.now) }
         ensures few_pairs { result.pairs ≤ 60 }
     {
-        let source = Message::over(self.message.as_slice());
+        let source = self.source();
         CaseSize {
             end: source.end(),
             fixed: source.fixed_count(),
@@ -170,7 +182,7 @@ impl OpenCase {
         ensures found { IfOk result (λ o. TimesFound V.TimeMeasure.rank (least_times V.TimeMeasure.ranking (case_of self.now) (chosen_of self.now)) o) }
         ensures law { TimesLaw V.TimeMeasure.ranking (case_of self.now) (chosen_of self.now) }
     {
-        times_of(heap, &Message::over(self.message.as_slice()), &self.arms)
+        times_of(heap, &self.source(), &self.arms)
     }
 
     /// What a bound answers about the case with the chosen arms.
@@ -181,12 +193,7 @@ impl OpenCase {
     ) -> Result<Option<V>, AllocError>
         ensures { IfOk result (λ o. RankIs V.TimeMeasure.rank o (B.Bound.meaning bound.now (case_of self.now) (chosen_of self.now) V.TimeMeasure.ranking)) }
     {
-        bound_of(
-            heap,
-            &Message::over(self.message.as_slice()),
-            &self.arms,
-            bound,
-        )
+        bound_of(heap, &self.source(), &self.arms, bound)
     }
 
     /// The case written as a message: byte for byte the message that was taken.

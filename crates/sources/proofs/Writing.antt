@@ -92,14 +92,12 @@ all_written c before one two after n size fits x y z =
 
 -- as the code has it: e, f and p are the numbers in the head
 module _ (c : Case) (before : List ℕ) (f p : ℕ) (fixed : f ≡ length c.fixed) (pairs : p ≡ length c.pairs) where
-  pub is_taken : (one two after h : List ℕ) (e : ℕ) → e ≡ c.end → h ≡ head_bytes e f p → 10 + 9 * f + 18 * p ≤ length before → one ≡ put_at before 0 h → two ≡ put_at one 10 (arcs_bytes c.fixed) → after ≡ put_at two (10 + 9 * f) (pairs_bytes c.pairs) → Taken c before after (10 + 9 * f + 18 * p)
-  is_taken one two after h e last heads fits x y z =
-      let n : 10 + 9 * f + 18 * p ≡ 10 + 9 * length c.fixed + 18 * length c.pairs = omega arith in
+  pub is_taken : (n : ℕ) → n ≡ length (message c) → (one two after h : List ℕ) (e : ℕ) → e ≡ c.end → h ≡ head_bytes e f p → n ≤ length before → one ≡ put_at before 0 h → two ≡ put_at one 10 (arcs_bytes c.fixed) → after ≡ put_at two (10 + 9 * f) (pairs_bytes c.pairs) → Taken c before after n
+  is_taken n whole one two after h e last heads fits x y z =
+      let m : n ≡ 10 + 9 * length c.fixed + 18 * length c.pairs = omega (arith, message_length c) in
       let x' : one ≡ put_at before 0 (head_bytes c.end (length c.fixed) (length c.pairs)) = x ∙ ap (put_at before 0) (heads ∙ (λ j. head_bytes (last j) (fixed j) (pairs j))) in
       let z' : after ≡ put_at two (10 + 9 * length c.fixed) (pairs_bytes c.pairs) = z ∙ (λ j. put_at two (10 + 9 * fixed j) (pairs_bytes c.pairs)) in
-      record { size = omega (arith, message_length c); fits = omega (arith, message_length c); front = all_written c before one two after (10 + 9 * f + 18 * p) n fits x' y z' }
+      record { size = whole; fits = omega arith; front = all_written c before one two after n m fits x' y z' }
 
-  pub is_refused : length before < 10 + 9 * f + 18 * p → Refused c before before (NoRoom (10 + 9 * f + 18 * p))
-  is_refused short =
-      let n : 10 + 9 * f + 18 * p ≡ length (message c) = omega (arith, message_length c) in
-      record { short = omega (arith, message_length c); named = λ j. record { layer = 1; cause = 16; place = n j }; same = refl }
+  pub is_refused : (n : ℕ) → n ≡ length (message c) → length before < n → Refused c before before (NoRoom n)
+  is_refused n whole short = record { short = omega arith; named = λ j. record { layer = 1; cause = 16; place = whole j }; same = refl }

@@ -18,7 +18,7 @@ pub struct Checked<'a, A: Record<Arc>, P: Record<Pair>> {
     ghost passed: { listed_fault (listed_by A.value P.value records) ≡ None },
 }
 
-// Kept: a derive writes no `Clone` over a ghost field that reads a type parameter.
+// Kept: no derive writes `Clone` over a ghost field in a struct with type parameters.
 impl<'a, A: Record<Arc>, P: Record<Pair>> Clone for Checked<'a, A, P> {
     ghost is_clone = { λ x y. y ≡ x };
 

@@ -12,4 +12,4 @@ mod write;
 
 pub use listed::{Listed, check_listed};
 pub use message::{Message, check_message};
-pub use write::write_message;
+pub use write::{message_len, write_message};

@@ -12,6 +12,7 @@ use messages::CaseFault;
 pub type Listed<'a> = Checked<'a, Arc, Pair>;
 
 /// Checks a case that is listed: its sizes, then each arc.
+// Kept: end, arcs and pairs are handed in one by one, a public signature.
 pub fn check_listed<'a>(end: usize, fixed: &'a [Arc], pairs: &'a [Pair]) -> Result<(), CaseFault>
     ensures told { case_told result ≡ listed_fault (listed end fixed.now pairs.now) }
     ensures law { TakesLimits (listed end fixed.now pairs.now) }

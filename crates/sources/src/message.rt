@@ -7,6 +7,7 @@ ghost use Rattle.sources.specs.Records.{arc_in, pair_in, listed_by};
 
 use super::checked::Checked;
 use super::records::Records;
+use super::write::bytes_behind;
 use graph::CaseSource;
 use messages::MessageFault;
 
@@ -49,6 +50,7 @@ fn cut(bytes: &[u8]) -> Result<Records<'_, [u8; 9], [[u8; 9]; 2]>, MessageFault>
     if head.version != 1 {
         return Err(MessageFault::Version);
     }
+    // Kept: the sizes that a case's check tests too, since a message is refused by the byte that tells one.
     let end = head.end as usize;
     if end == 0 || end > 511 {
         return Err(MessageFault::Events);
@@ -61,7 +63,7 @@ fn cut(bytes: &[u8]) -> Result<Records<'_, [u8; 9], [[u8; 9]; 2]>, MessageFault>
     if pairs > 60 {
         return Err(MessageFault::TooManyPairs);
     }
-    let behind = 6 + 9 * fixed + 18 * pairs;
+    let behind = bytes_behind(head.fixed, head.pairs) as usize;
     if head.behind as usize != behind || bytes.len() != 4 + behind {
         return Err(MessageFault::Length);
     }

@@ -12,7 +12,7 @@ pub trait Record<T>: Copy {
         ensures { result ≡ value self };
 }
 
-/// Kept as itself.
+/// A record that is the value.
 impl<T: Copy> Record<T> for T {
     ghost value = { λ x. x };
 

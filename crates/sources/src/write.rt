@@ -1,17 +1,30 @@
 ghost use Rattle.std.specs.Prelude.{◌≡◌, ◌+◌, ◌*◌, ◌≤◌, length};
-ghost use Rattle.messages.specs.Message.{arc_bytes, arcs_bytes, pairs_bytes, ReadsBack};
+ghost use Rattle.messages.specs.Message.{arc_bytes, arcs_bytes, pairs_bytes, message, ReadsBack};
 ghost use Rattle.graph.specs.Views.{arc_of, arc_found};
 ghost use Rattle.sources.specs.Written.{put_at, head_bytes, found_bytes, Written};
 
 use graph::{Arc, CaseSource};
 use messages::MessageFault;
 
+/// How many bytes of a message follow those that tell this number.
+pub(crate) fn bytes_behind(fixed: u16, pairs: u8) -> u32
+    ensures { result ≡ 6 + 9 * fixed + 18 * pairs }
+{
+    6 + 9 * u32::from(fixed) + 18 * u32::from(pairs)
+}
+
+/// How many bytes the case takes as a message.
+pub fn message_len<S: CaseSource>(source: &S) -> usize
+    ensures { result ≡ length (message (S.CaseSource.means source.now)) }
+{
+    10 + 9 * source.fixed_count() + 18 * source.pair_count()
+}
+
 /// What stands in front of the arcs.
 fn head(end: u16, fixed: u16, pairs: u8) -> [u8; 10]
     ensures { result ≡ head_bytes end fixed pairs }
 {
-    let behind = 6 + 9 * fixed as u32 + 18 * pairs as u32;
-    let [b0, b1, b2, b3] = behind.to_be_bytes();
+    let [b0, b1, b2, b3] = bytes_behind(fixed, pairs).to_be_bytes();
     let [e0, e1] = end.to_be_bytes();
     let [f0, f1] = fixed.to_be_bytes();
     [b0, b1, b2, b3, 1, e0, e1, f0, f1, pairs]
@@ -78,7 +91,7 @@ pub fn write_message<S: CaseSource>(source: &S, out: &mut [u8]) -> Result<usize,
 {
     let fixed = source.fixed_count();
     let pairs = source.pair_count();
-    let needed = 10 + 9 * fixed + 18 * pairs;
+    let needed = message_len(source);
     if out.len() < needed {
         return Err(MessageFault::NoRoom(needed));
     }

@@ -96,6 +96,7 @@ impl FromStr for Kind {
     }
 }
 
+// Kept: of a derived `Display` no clause says the words.
 impl fmt::Display for UnknownKind {
     ghost output = { λ _. Some (codes "there is no such kind of train") };
 

@@ -10,6 +10,7 @@ pub struct Train {
     /// 0 to 86,400.
     pub due: u32,
     /// 1 to 16.
+    // Kept: a number of steps, since the steps of all trains stand in one list, a rule of the project.
     pub steps: u8,
 }
 

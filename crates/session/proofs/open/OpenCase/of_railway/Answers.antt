@@ -18,4 +18,4 @@ returns c =
     let ss = c.args.steps.now in
     let ms = vec_items c.in_ok-message.message in
     let written : ms ≡ message (railway_case ts ss) = search rules in
-    (sym c.in_ok-check_railway.ensures.told, railed_case ts ss ms written, refl)
+    (sym c.in_ok-railway.ensures.told, railed_case ts ss ms written, refl)
