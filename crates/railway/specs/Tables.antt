@@ -19,7 +19,7 @@ arcs_in t = map arc_of (listed t)
 abbrev pub pairs_in : {N : ℕ} → Table PairRecord N → List Pair
 pairs_in t = map pair_of (listed t)
 
--- pairs that were added to a table of sixty entries; none where there are more than entries
+-- pairs that were added to a table of sixty entries, or that there would be more than sixty
 abbrev pub Added : List Pair → Table PairRecord 60 → Table PairRecord 60 → Result (Unit {0}) Full → Type 0
 Added new before after r =
     MatchResult r (λ _. pairs_in after ≡ pairs_in before ++ new) (λ _. 60 < length (listed before) + length new)

@@ -33,7 +33,7 @@ impl<T: Copy, const N: usize> Table<T, N> {
     ghost use Rattle.railway.specs.Tables.{listed};
 
     /// The table without entries. What `blank` is makes no difference: it fills the memory.
-    pub fn new(blank: T) -> Table<T, N>
+    pub(crate) fn new(blank: T) -> Table<T, N>
         ensures { listed result ≡ [] }
     {
         Table {
@@ -43,14 +43,14 @@ impl<T: Copy, const N: usize> Table<T, N> {
     }
 
     /// The entries.
-    pub fn as_slice(&self) -> &[T]
+    pub(crate) fn as_slice(&self) -> &[T]
         ensures { result.now ≡ listed self.now }
     {
         &self.entries[..self.len]
     }
 
     /// Adds an entry behind the others.
-    pub fn push(&mut self, entry: T)
+    pub(crate) fn push(&mut self, entry: T)
         requires { length (listed self.old) < N }
         ensures { listed self.new ≡ listed self.old ++ entry ∷ [] }
     {
@@ -58,9 +58,9 @@ impl<T: Copy, const N: usize> Table<T, N> {
         self.len += 1;
     }
 
-    /// Adds an entry behind the others, where there is room.
-    pub fn try_push(&mut self, entry: T) -> Result<(), Full>
-        ensures { MatchResult result (λ _. listed self.new ≡ listed self.old ++ entry ∷ []) (λ _. length (listed self.old) ≡ N) }
+    /// Adds an entry behind the others, where there is room; else nothing changes.
+    pub(crate) fn try_push(&mut self, entry: T) -> Result<(), Full>
+        ensures { MatchResult result (λ _. listed self.new ≡ listed self.old ++ entry ∷ []) (λ _. (length (listed self.old) ≡ N) × (listed self.new ≡ listed self.old)) }
     {
         if self.len == N {
             return Err(Full);

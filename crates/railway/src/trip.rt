@@ -35,7 +35,7 @@ impl<'a> Trips<'a> {
     ghost use Rattle.railway.specs.Trips.{trips_left};
 
     /// The trips of these trains, whose steps stand in one list, train by train.
-    pub fn over(trains: &'a [Train], steps: &'a [Step]) -> Trips<'a>
+    pub(crate) fn over(trains: &'a [Train], steps: &'a [Step]) -> Trips<'a>
         requires { Sound trains.now steps.now }
         ensures { trips_left result ≡ trips 1 trains.now steps.now }
     {
