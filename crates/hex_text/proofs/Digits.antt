@@ -1,43 +1,48 @@
--- The words for hexadecimal text here, by those of the library's crate. Assumes nothing.
-use Rattle.std.proofs.Common.{◌≡◌, ℕ, suc, ◌+◌, ◌*◌, ◌/◌, ◌%◌, ◌<◌, List, [], ◌∷◌, length, get_or, take, Some, None, Option, Ok, Err, Result, map, sym, refl, ap, ◌∙◌, subst, ◌⊎◌, inl, inr, arith}
+-- Hexadecimal text, two digits at a time. Assumes nothing.
+use Rattle.std.proofs.Common.{◌≡◌, ℕ, zero, suc, ◌+◌, ◌*◌, ◌/◌, ◌%◌, ◌<◌, List, [], ◌∷◌, ◌++◌, length, get_or, take, Some, None, Err, Option, sym, refl, ap, ◌∙◌, subst, arith}
 use Rattle.std.specs.Prelude.{All, IsSome}
-use Rattle.std.specs.List.{range_with_len}
+use Rattle.std.proofs.lemmas.List.{take_more, append_assoc}
+use Rattle.std.proofs.lemmas.List.Elements.{All-append, All-cons, All-nil}
 use Rattle.std.proofs.lemmas.Bool.Decides.{nat_tests}
-use Rattle.std.proofs.lemmas.Bool.{cases_eq}
-use Rattle.std.proofs.lemmas.List.FromFn.{get_or-map-range_with_len}
-use Rattle.std.proofs.lemmas.List.Elements.{All-cons, All-nil}
-use Rattle.hex.specs.Hex.{hex_digit_value, digit_or_error, decode_pairs, decode_of, encode_with, encode_lower, lower_digits, IsBytes, ◌>>=◌}
-use Rattle.hex.specs.declared.error.FromHexError.{FromHexError}
-use Rattle.hex.specs.declared.error.FromHexError.TheVariants.{InvalidHexCharacter, OddLength, InvalidStringLength, OutOfMemory}
-use Rattle.hex.proofs.HexLemmas.{decode_of-even, decode_of-encode_lower}
-use Rattle.hex_text.specs.Hex.{hex_value, hex_digit, hex_byte, hex_bytes, hex_text}
+use Rattle.hex_text.specs.Hex.{hex_value, hex_digit, hex_byte, hex_bytes, hex_text, HexRead, AfterDigits}
+use Rattle.hex_text.specs.declared.text.HexFault.{HexFault}
+use Rattle.hex_text.specs.declared.text.HexFault.TheVariants.{Digit}
 
--- ---- what is read
+never : {X : Type 0} (x : X) → ◌≡◌ {A = Option X} None (Some x) → ⊥
+never x e = cc
 
-value_same : (c : ℕ) → hex_value c ≡ hex_digit_value c
-value_same c = grind (arith, nat_tests)
+-- ---- one byte more
 
-abbrev pub IsDigit : ℕ → Type 0
-IsDigit c = IsSome (hex_value c)
+byte_push : (a b : Option ℕ) (o p : Option (List ℕ)) (bs : List ℕ) (z : ℕ) → ((cs : List ℕ) → o ≡ Some cs → p ≡ Some (cs ++ (z ∷ []))) → hex_byte a b o ≡ Some bs → hex_byte a b p ≡ Some (bs ++ (z ∷ []))
+byte_push None b o p bs z f e = absurd (never bs e)
+byte_push (Some h) None o p bs z f e = absurd (never bs e)
+byte_push (Some h) (Some l) None p bs z f e = absurd (never bs e)
+byte_push (Some h) (Some l) (Some cs) p bs z f e =
+    let q : (16 * h + l) ∷ cs ≡ bs = cc in
+    ap (hex_byte (Some h) (Some l)) (f cs refl) ∙ ap (λ (l : List ℕ). Some (l ++ (z ∷ []))) q
 
--- digits, and then one that is none
-pub record BadAt (t : List ℕ) (k : ℕ) : Type 0 where
-  pub none : hex_bytes t ≡ None
-  pub within : k < length t
-  pub bad : hex_value (get_or t k 0) ≡ None
-  pub before : All IsDigit (take k t)
+pub hex_push : (xs bs : List ℕ) (h l u v : ℕ) → hex_bytes xs ≡ Some bs → hex_value h ≡ Some u → hex_value l ≡ Some v → hex_bytes (xs ++ (h ∷ l ∷ [])) ≡ Some (bs ++ ((16 * u + v) ∷ []))
+hex_push [] bs h l u v e p q =
+    let z : [] ≡ bs = cc in
+    ap (λ a. hex_byte a (hex_value l) (Some [])) p ∙ (ap (λ b. hex_byte (Some u) b (Some [])) q ∙ ap (λ (l : List ℕ). Some (l ++ ((16 * u + v) ∷ []))) z)
+hex_push (x ∷ []) bs h l u v e p q = absurd (never bs e)
+hex_push (x ∷ y ∷ xs) bs h l u v e p q = byte_push (hex_value x) (hex_value y) (hex_bytes xs) (hex_bytes (xs ++ (h ∷ l ∷ []))) bs (16 * u + v) (λ cs k. hex_push xs cs h l u v k p q) e
 
--- what the library answers about the digits from an index on, in the words here
-abbrev pub PairsTold : ℕ → List ℕ → Result (List ℕ) FromHexError → Type 0
-PairsTold i t (Ok bs) = hex_bytes t ≡ Some bs
-PairsTold i t (Err (InvalidHexCharacter c k)) = (j : ℕ) × (k ≡ i + j) × BadAt t j
-PairsTold i t (Err OddLength) = (hex_bytes t ≡ None) × (length t % 2 ≡ 1)
-PairsTold i t (Err InvalidStringLength) = ⊥
-PairsTold i t (Err OutOfMemory) = ⊥
+take_two : (xs : List ℕ) (k : ℕ) → k + 1 < length xs → take (k + 2) xs ≡ take k xs ++ (get_or xs k 0 ∷ get_or xs (k + 1) 0 ∷ [])
+take_two xs k h =
+    let e : k + 2 ≡ (k + 1) + 1 = omega arith in
+    ap (λ n. take n xs) e
+    ∙ (take_more xs (k + 1) 0 h
+    ∙ (ap (λ l. l ++ (get_or xs (k + 1) 0 ∷ [])) (take_more xs k 0 (omega arith)) ∙ append_assoc (take k xs) (get_or xs k 0 ∷ []) (get_or xs (k + 1) 0 ∷ [])))
 
--- the byte of two digits, before what the library answers about those after them
-abbrev byte_then : ℕ → ℕ → ℕ → Option ℕ → Option ℕ → Result (List ℕ) FromHexError → Result (List ℕ) FromHexError
-byte_then i h l a b r = (digit_or_error h i a >>= λ u. digit_or_error l (i + 1) b >>= λ v. Ok (u * 16 + v)) >>= λ x. r >>= λ xs. Ok (x ∷ xs)
+-- after the digits of k bytes, those of one more
+pub hex_more : (xs bs : List ℕ) (k u v : ℕ) → 2 * k + 1 < length xs → hex_bytes (take (2 * k) xs) ≡ Some bs → hex_value (get_or xs (2 * k) 0) ≡ Some u → hex_value (get_or xs (2 * k + 1) 0) ≡ Some v
+    → hex_bytes (take (2 * (k + 1)) xs) ≡ Some (bs ++ ((16 * u + v) ∷ []))
+hex_more xs bs k u v h e p q =
+    let n : 2 * (k + 1) ≡ 2 * k + 2 = omega arith in
+    ap (λ m. hex_bytes (take m xs)) n ∙ (ap hex_bytes (take_two xs (2 * k) h) ∙ hex_push (take (2 * k) xs) bs (get_or xs (2 * k) 0) (get_or xs (2 * k + 1) 0) u v e p q)
+
+-- ---- a text that is none
 
 byte_none : (a b : Option ℕ) → hex_byte a b None ≡ None
 byte_none None b = refl
@@ -48,90 +53,81 @@ low_none : (a : Option ℕ) (o : Option (List ℕ)) → hex_byte a None o ≡ No
 low_none None o = refl
 low_none (Some h) o = refl
 
-is_digit : (c v : ℕ) → hex_value c ≡ Some v → IsDigit c
-is_digit c v e = rw e refl
+pub hex_bad : (t : List ℕ) (k : ℕ) → k < length t → hex_value (get_or t k 0) ≡ None → hex_bytes t ≡ None
+hex_bad [] k h e = absurd (omega arith)
+hex_bad (x ∷ []) k h e = refl
+hex_bad (x ∷ y ∷ t) zero h e = ap (λ a. hex_byte a (hex_value y) (hex_bytes t)) e
+hex_bad (x ∷ y ∷ t) (suc zero) h e = ap (λ b. hex_byte (hex_value x) b (hex_bytes t)) e ∙ low_none (hex_value x) (hex_bytes t)
+hex_bad (x ∷ y ∷ t) (suc (suc k)) h e = ap (hex_byte (hex_value x) (hex_value y)) (hex_bad t k (omega arith) e) ∙ byte_none (hex_value x) (hex_value y)
 
-digits_more : (h l u v : ℕ) (ds : List ℕ) → hex_value h ≡ Some u → hex_value l ≡ Some v → All IsDigit ds → All IsDigit (h ∷ l ∷ ds)
-digits_more h l u v ds p q a = All-cons IsDigit h (l ∷ ds) (is_digit h u p) (All-cons IsDigit l ds (is_digit l v q) a)
-
-byte_told : (i h l : ℕ) (t : List ℕ) (a b : Option ℕ) → hex_value h ≡ a → hex_value l ≡ b → (r : Result (List ℕ) FromHexError) → PairsTold (i + 2) t r → PairsTold i (h ∷ l ∷ t) (byte_then i h l a b r)
-byte_told i h l t None b p q r m = (0, omega arith, record { none = ap (λ a. hex_byte a (hex_value l) (hex_bytes t)) p; within = omega arith; bad = p; before = All-nil IsDigit })
-byte_told i h l t (Some u) None p q r m = (1, omega arith, record { none = ap (λ b. hex_byte (hex_value h) b (hex_bytes t)) q ∙ low_none (hex_value h) (hex_bytes t); within = omega arith; bad = q; before = All-cons IsDigit h [] (is_digit h u p) (All-nil IsDigit) })
-byte_told i h l t (Some u) (Some v) p q (Ok bs) m =
-    let e : 16 * u + v ≡ u * 16 + v = omega arith in
-    ap (λ a. hex_byte a (hex_value l) (hex_bytes t)) p ∙ (ap (λ b. hex_byte (Some u) b (hex_bytes t)) q ∙ (ap (hex_byte (Some u) (Some v)) m ∙ ap (λ (n : ℕ). Some (n ∷ bs)) e))
-byte_told i h l t (Some u) (Some v) p q (Err OddLength) m = (ap (hex_byte (hex_value h) (hex_value l)) m.0 ∙ byte_none (hex_value h) (hex_value l), omega (arith, m.1))
-byte_told i h l t (Some u) (Some v) p q (Err (InvalidHexCharacter c k)) (j, e, m) = (
-  suc (suc j),
-  omega (arith, e),
-  record {
-    none = ap (hex_byte (hex_value h) (hex_value l)) m.none ∙ byte_none (hex_value h) (hex_value l);
-    within = omega (arith, m.within);
-    bad = m.bad;
-    before = digits_more h l u v (take j t) p q m.before;
-  },
-)
-byte_told i h l t (Some u) (Some v) p q (Err InvalidStringLength) m = m
-byte_told i h l t (Some u) (Some v) p q (Err OutOfMemory) m = m
-
-pub pairs_told : (i : ℕ) (t : List ℕ) → PairsTold i t (decode_pairs i t)
-unfolding decode_pairs
-pairs_told i [] = refl
-pairs_told i (x ∷ []) = (refl, refl)
-pairs_told i (h ∷ l ∷ t) = byte_told i h l t (hex_digit_value h) (hex_digit_value l) (value_same h) (value_same l) (decode_pairs (i + 2) t) (pairs_told (i + 2) t)
-
-hex_odd : (t : List ℕ) → length t % 2 ≡ 1 → hex_bytes t ≡ None
+pub hex_odd : (t : List ℕ) → length t % 2 ≡ 1 → hex_bytes t ≡ None
 hex_odd [] e = absurd (omega arith)
 hex_odd (x ∷ []) e = refl
 hex_odd (x ∷ y ∷ t) e = ap (hex_byte (hex_value x) (hex_value y)) (hex_odd t (omega arith)) ∙ byte_none (hex_value x) (hex_value y)
 
-decode_odd : (t : List ℕ) → length t % 2 ≡ 1 → decode_of t ≡ Err OddLength
-decode_odd t e = grind (arith, nat_tests)
+-- the refusal of a text that has no digit at an index
+pub read_bad : (t ds : List ℕ) (k : ℕ) (f : HexFault) → ds ≡ t → f ≡ Digit k → k < length ds → hex_value (get_or ds k 0) ≡ None → HexRead t (Err f)
+read_bad t ds k f e d h n =
+    subst (λ (g : HexFault). HexRead t (Err g)) (sym d)
+    (subst (λ (s : List ℕ). (hex_bytes s ≡ None) × (hex_value (get_or s k 0) ≡ None) × (k < length s)) e (hex_bad ds k h n, n, h))
 
--- what the library answers about a text
-pub text_told : (t : List ℕ) → PairsTold 0 t (decode_of t)
-text_told t = elim (cases_eq (length t % 2) 1) [
-  | inl odd ↦ subst (PairsTold 0 t) (sym (decode_odd t odd)) (hex_odd t odd, odd)
-  | inr even ↦ subst (PairsTold 0 t) (sym (decode_of-even t (omega arith))) (pairs_told 0 t)
-]
+-- ---- the digits before one that is none
 
-pub read_told : (t : List ℕ) (r : Result (List ℕ) FromHexError) → decode_of t ≡ r → PairsTold 0 t r
-read_told t r e = subst (PairsTold 0 t) e (text_told t)
+abbrev pub IsDigit : ℕ → Type 0
+IsDigit c = IsSome (hex_value c)
 
--- what a refusal by the library says of the text
-abbrev pub FaultTold : List ℕ → FromHexError → Type 0
-FaultTold t (InvalidHexCharacter c k) = BadAt t k
-FaultTold t OddLength = (hex_bytes t ≡ None) × (length t % 2 ≡ 1)
-FaultTold t InvalidStringLength = ⊥
-FaultTold t OutOfMemory = Unit {0}
+is_digit : (c v : ℕ) → hex_value c ≡ Some v → IsDigit c
+is_digit c v e = rw e refl
 
-fault_found : (t : List ℕ) (f : FromHexError) → PairsTold 0 t (Err f) → FaultTold t f
-fault_found t (InvalidHexCharacter c k) (j, e, m) = let q : k ≡ j = omega (arith, e) in subst (BadAt t) (sym q) m
-fault_found t OddLength m = m
-fault_found t InvalidStringLength m = m
-fault_found t OutOfMemory m = tt
+byte_digits : (h l : ℕ) (a b : Option ℕ) (o : Option (List ℕ)) (t bs : List ℕ) → hex_value h ≡ a → hex_value l ≡ b → ((cs : List ℕ) → o ≡ Some cs → All IsDigit t) → hex_byte a b o ≡ Some bs → All IsDigit (h ∷ l ∷ t)
+byte_digits h l None b o t bs p q f e = absurd (never bs e)
+byte_digits h l (Some u) None o t bs p q f e = absurd (never bs e)
+byte_digits h l (Some u) (Some v) None t bs p q f e = absurd (never bs e)
+byte_digits h l (Some u) (Some v) (Some cs) t bs p q f e = All-cons IsDigit h (l ∷ t) (is_digit h u p) (All-cons IsDigit l t (is_digit l v q) (f cs refl))
 
-pub fault_told : (t : List ℕ) (f g : FromHexError) → f ≡ g → (f ≡ OutOfMemory) ⊎ (decode_of t ≡ Err f) → FaultTold t g
-fault_told t f g q (inl e) = subst (FaultTold t) (sym e ∙ q) tt
-fault_told t f g q (inr e) = subst (FaultTold t) q (fault_found t f (read_told t (Err f) e))
+-- a text that writes bytes has digits alone
+pub all_digits : (t bs : List ℕ) → hex_bytes t ≡ Some bs → All IsDigit t
+all_digits [] bs e = All-nil IsDigit
+all_digits (x ∷ []) bs e = absurd (never bs e)
+all_digits (x ∷ y ∷ t) bs e = byte_digits x y (hex_value x) (hex_value y) (hex_bytes t) t bs refl refl (λ cs k. all_digits t cs k) e
+
+-- one digit more
+pub one_digit_more : (xs : List ℕ) (k v : ℕ) → k < length xs → All IsDigit (take k xs) → hex_value (get_or xs k 0) ≡ Some v → All IsDigit (take (k + 1) xs)
+one_digit_more xs k v h a e =
+    subst (All IsDigit) (sym (take_more xs k 0 h)) (All-append IsDigit (take k xs) (get_or xs k 0 ∷ []) a (All-cons IsDigit (get_or xs k 0) [] (is_digit (get_or xs k 0) v e) (All-nil IsDigit)))
+
+-- the refusal at an index after digits
+pub after_digits : (t ds : List ℕ) (k : ℕ) (f : HexFault) → ds ≡ t → f ≡ Digit k → All IsDigit (take k ds) → AfterDigits t f
+after_digits t ds k f e d a =
+    subst (AfterDigits t) (sym d) (subst (λ (s : List ℕ). All IsDigit (take k s)) e a)
 
 -- ---- what is written
 
-digit_same : (d : ℕ) → d < 16 → get_or lower_digits d 0 ≡ hex_digit d
-digit_same d h =
-    let e : lower_digits ≡ map hex_digit (range_with_len 0 16) = refl in
-    ap (λ l. get_or l d 0) e ∙ get_or-map-range_with_len hex_digit 0 16 d d 0 h (omega arith)
-
-pub text_same : (bs : List ℕ) → IsBytes bs → encode_lower bs ≡ hex_text bs
-unfolding encode_with
-text_same [] f = refl
-text_same (b ∷ bs) f =
-    let h : b < 256 = f 0 in
-    ap (λ d. d ∷ get_or lower_digits (b % 16) 0 ∷ encode_lower bs) (digit_same (b / 16) (omega arith))
-    ∙ (ap (λ d. hex_digit (b / 16) ∷ d ∷ encode_lower bs) (digit_same (b % 16) (omega arith))
-    ∙ ap (λ l. hex_digit (b / 16) ∷ hex_digit (b % 16) ∷ l) (text_same bs (λ k. f (suc k))))
+digit_value : (v : ℕ) → v < 16 → hex_value (hex_digit v) ≡ Some v
+digit_value v h = grind (arith, nat_tests)
 
 -- what is written reads back the same
-pub hex_law : (bs : List ℕ) → IsBytes bs → hex_bytes (hex_text bs) ≡ Some bs
-hex_law bs f =
-    ap hex_bytes (sym (text_same bs f)) ∙ read_told (encode_lower bs) (Ok bs) (decode_of-encode_lower bs f)
+pub hex_law : (bs : List ℕ) → ((i : ℕ) → get_or bs i 0 < 256) → hex_bytes (hex_text bs) ≡ Some bs
+hex_law [] f = refl
+hex_law (b ∷ bs) f =
+    let h : b < 256 = f 0 in
+    let e : 16 * (b / 16) + b % 16 ≡ b = omega arith in
+    ap (λ o. hex_byte o (hex_value (hex_digit (b % 16))) (hex_bytes (hex_text bs))) (digit_value (b / 16) (omega arith))
+    ∙ (ap (λ o. hex_byte (Some (b / 16)) o (hex_bytes (hex_text bs))) (digit_value (b % 16) (omega arith))
+    ∙ (ap (hex_byte (Some (b / 16)) (Some (b % 16))) (hex_law bs (λ k. f (suc k))) ∙ ap (λ (n : ℕ). Some (n ∷ bs)) e))
+
+text_append : (xs ys : List ℕ) → hex_text (xs ++ ys) ≡ hex_text xs ++ hex_text ys
+text_append [] ys = refl
+text_append (x ∷ xs) ys = ap (λ l. hex_digit (x / 16) ∷ hex_digit (x % 16) ∷ l) (text_append xs ys)
+
+pub text_more : (xs : List ℕ) (k : ℕ) → k < length xs → hex_text (take (k + 1) xs) ≡ hex_text (take k xs) ++ (hex_digit (get_or xs k 0 / 16) ∷ hex_digit (get_or xs k 0 % 16) ∷ [])
+text_more xs k h = ap hex_text (take_more xs k 0 h) ∙ text_append (take k xs) (get_or xs k 0 ∷ [])
+
+pub digit_ascii : (d v : ℕ) → v < 16 → d ≡ hex_digit v → d < 128
+digit_ascii d v h e = grind (arith, nat_tests)
+
+-- one byte more is written, a digit at a time
+pub written_more : (xs : List ℕ) (k d e : ℕ) (t u v x y : List ℕ) → k < length xs → t ≡ hex_text (take k xs) → u ≡ t ++ x → x ≡ d ∷ [] → v ≡ u ++ y → y ≡ e ∷ [] → d ≡ hex_digit (get_or xs k 0 / 16) → e ≡ hex_digit (get_or xs k 0 % 16) → v ≡ hex_text (take (k + 1) xs)
+written_more xs k d e t u v x y h it iu ix iv iy id ie =
+    let two : (t ++ (d ∷ [])) ++ (e ∷ []) ≡ t ++ (d ∷ e ∷ []) = append_assoc t (d ∷ []) (e ∷ []) in
+    let more = text_more xs k h in cc

@@ -1,9 +1,8 @@
-ghost use Rattle.std.specs.Prelude.{◌≡◌, ◌==◌, ◌%◌, length, IfOk, IfErr, Some, string_bytes};
+ghost use Rattle.std.specs.Prelude.{◌≡◌, ◌==◌, ◌%◌, ◌<◌, length, slice_index, IfOk, IfErr, MatchResult, Some, None, string_bytes};
 ghost use Rattle.std.specs.List.{zip, position_from};
 ghost use Rattle.std.proofs.Math.Bool.{not};
-ghost use Rattle.hex_text.specs.Hex.{hex_bytes, hex_text, HexRead, AfterDigits, Differs};
+ghost use Rattle.hex_text.specs.Hex.{hex_value, hex_digit, hex_bytes, hex_text, HexRead, AfterDigits, Differs};
 
-use hex::FromHexError;
 use std::alloc::{AllocError, AllocFailed, Global};
 use thiserror::Error;
 
@@ -33,19 +32,43 @@ impl<T: Drop> From<AllocFailed<T>> for HexFault {
     }
 }
 
+/// The digit of a value, in lower case.
+fn digit_of(value: u8) -> char
+    requires { value < 16 }
+    ensures { result ≡ hex_digit value }
+{
+    char::from_digit(u32::from(value), 16).unwrap()
+}
+
+/// The value of the digit at an index, in upper or lower case.
+fn value_at(digits: &[u8], at: usize) -> Result<u8, HexFault>
+    requires { at < length digits.now }
+    ensures { MatchResult result (λ v. (hex_value (slice_index digits.now at) ≡ Some v) × (v < 16)) (λ f. (f ≡ HexFault.Digit at) × (hex_value (slice_index digits.now at) ≡ None)) }
+{
+    match char::from(digits[at]).to_digit(16) {
+        Some(value) => Ok(value as u8),
+        None => Err(HexFault::Digit(at)),
+    }
+}
+
 /// Reads bytes written in hexadecimal, two digits for each.
+#[tactic(auto, using(crate::proofs::Digits::hex_odd))]
 pub fn read_hex(heap: Global, text: &str) -> Result<Vec<u8>, HexFault>
     ensures read { HexRead text.now result }
     ensures first { IfErr result (AfterDigits text.now) }
     ensures odd { length text.now % 2 ≡ 1 → result ≡ Err HexFault.Odd }
 {
-    match hex::decode(heap, text) {
-        Ok(bytes) => Ok(bytes),
-        Err(FromHexError::InvalidHexCharacter { index, .. }) => Err(HexFault::Digit(index)),
-        Err(FromHexError::OddLength) => Err(HexFault::Odd),
-        Err(FromHexError::OutOfMemory) => Err(HexFault::Memory),
-        Err(FromHexError::InvalidStringLength) => unreachable(),
+    let digits = text.as_bytes();
+    if digits.len() % 2 == 1 {
+        return Err(HexFault::Odd);
     }
+    let mut bytes = Vec::new(heap);
+    for at in 0..digits.len() / 2 {
+        let high = value_at(digits, 2 * at)?;
+        let low = value_at(digits, 2 * at + 1)?;
+        bytes.push(16 * high + low)?;
+    }
+    Ok(bytes)
 }
 
 /// Writes bytes in hexadecimal, in lower case; what is written reads back the same.
@@ -53,7 +76,12 @@ pub fn write_hex(heap: Global, bytes: &[u8]) -> Result<String, AllocError>
     ensures written { IfOk result (λ s. string_bytes s ≡ hex_text bytes.now) }
     ensures law { hex_bytes (hex_text bytes.now) ≡ Some bytes.now }
 {
-    hex::encode(heap, bytes)
+    let mut text = String::with_capacity(heap, 2 * bytes.len())?;
+    for byte in bytes {
+        text.push(digit_of(*byte / 16))?;
+        text.push(digit_of(*byte % 16))?;
+    }
+    Ok(text)
 }
 
 /// The index of the first byte that differs, of those that both rows have.
