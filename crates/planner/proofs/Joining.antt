@@ -1,12 +1,13 @@
 -- Tables of arms, and nodes in them.
 use Rattle.std.proofs.Common.{◌≡◌, ℕ, zero, suc, ◌+◌, ◌<◌, ◌≤◌, true, false, cond, eqb, leb, List, [], ◌∷◌, ◌++◌, length, get_or, take, drop, set, Some, None, sym, refl, ap, ◌∙◌, subst, arith}
 use Rattle.std.proofs.lemmas.Bool.{cond-true, cond-false, and_parts, and_from, le-leb, leb-true, eq-eqb, ne_eqb}
-use Rattle.std.proofs.lemmas.List.{length-take-le, length-set, take-take, take_more, take_more_set, drop_more, drop-set-lt, append_assoc, append-nil, take_all, drop_all}
+use Rattle.std.proofs.lemmas.List.{length-take-le, length-set, take-append-drop, take-take, take_more, take_more_set, drop_more, drop-set-lt, append_assoc, append-nil, take_all, drop_all}
 use Rattle.std.specs.List.{count_by}
 use Rattle.std.proofs.lemmas.List.Sums.{count_by-le-length}
 use Rattle.std.proofs.lemmas.List.Recursion.{is_count_by}
 use Rattle.graph.specs.Graph.{Pair, selection_of}
 use Rattle.search.specs.Search.{Node, turned, after, joined, free}
+use Rattle.search.proofs.Nodes.{joined_none}
 use Rattle.planner.specs.Small.{small}
 use Rattle.planner.specs.Nodes.{LacksFirst, LastFirst}
 
@@ -117,3 +118,9 @@ free_counted = is_count_by free (λ h. eqb h 0) refl (λ h hs. refl)
 
 pub free_few : (n : ℕ) (hs : List ℕ) → n ≤ length hs → free (take n hs) ≤ n
 free_few n hs l = omega (arith, free_counted (take n hs), count_by-le-length (λ h. eqb h 0) (take n hs), length-take-le n hs l)
+
+-- where no arm is left, the places are those of the whole already
+pub joining_stop : (hs x places : List ℕ) (pair : ℕ) (rest : List ℕ) → rest ≡ [] → Joining hs x places pair rest → places ≡ joined hs x
+joining_stop hs x places pair rest e j =
+    let f : joined (drop pair places) rest ≡ drop pair places = ap (joined (drop pair places)) e ∙ joined_none (drop pair places) in
+    sym (take-append-drop pair places) ∙ (ap (λ (t : List ℕ). take pair places ++ t) (sym f) ∙ j.whole)

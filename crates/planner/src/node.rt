@@ -76,10 +76,12 @@ impl Node {
         let mut rest = &self.arms.places[..self.depth];
         for place in &mut places {
             if *place == 0 {
-                if let Some((arm, others)) = rest.split_first() {
-                    *place = *arm;
-                    rest = others;
-                }
+                // Where no arm is left, the other places stay as they are held.
+                let Some((arm, others)) = rest.split_first() else {
+                    break;
+                };
+                *place = *arm;
+                rest = others;
             }
         }
         Arms { places }

@@ -18,7 +18,7 @@ fn check_arc(end: usize, number: usize, arc: Arc) -> Result<(), CaseFault>
         weight,
         mark,
     } = arc;
-    if from as usize > end || to as usize > end {
+    if usize::from(from.max(to)) > end {
         return Err(CaseFault::UnknownEvent(number));
     }
     if from == to {

@@ -74,6 +74,10 @@ impl<'a, A: Record<Arc>, P: Record<Pair>> CaseSource for Checked<'a, A, P> {
     }
 
     fn arm(&self, pair: usize, arm: u8) -> Option<Arc> {
+        // First, since of a selection most pairs may be undecided, and each round asks for the arm of each.
+        if arm == 0 || arm > 2 {
+            return None;
+        }
         let pair = *self.records.pairs.get(pair)?;
         P::read(pair).arm(arm)
     }
