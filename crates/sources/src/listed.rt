@@ -25,6 +25,7 @@ impl<'a> Checked<'a, Arc, Pair> {
     pub fn read(end: usize, fixed: &'a [Arc], pairs: &'a [Pair]) -> Result<Listed<'a>, CaseFault>
         ensures told { case_told result ≡ listed_fault (listed end fixed.now pairs.now) }
         ensures means { IfOk result (λ s. ⟦<Listed<'a> as CaseSource>⟧.means s ≡ listed_case end fixed.now pairs.now) }
+        ensures law { TakesLimits (listed end fixed.now pairs.now) }
     {
         Checked::of(Records { end, fixed, pairs })
     }

@@ -85,6 +85,7 @@ impl<'a> Checked<'a, [u8; 9], [[u8; 9]; 2]> {
     pub fn read(bytes: &'a [u8]) -> Result<Message<'a>, MessageFault>
         ensures told { message_told result ≡ message_fault bytes.now }
         ensures means { IfOk result (λ s. ⟦<Message<'a> as CaseSource>⟧.means s ≡ message_case bytes.now) }
+        ensures law { WritesBack bytes.now }
     {
         Ok(Checked::of(cut(bytes)?)?)
     }
