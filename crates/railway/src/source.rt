@@ -25,6 +25,15 @@ impl From<Full> for RailwayFault {
     }
 }
 
+/// Checks the limits, and lists the pairs: not `Railway::read`, which lists the fixed arcs too.
+fn check_parts(trains: &[Train], steps: &[Step]) -> Result<(), RailwayFault>
+    ensures { railway_told result ≡ railway_fault trains.now steps.now }
+{
+    check_limits(trains, steps)?;
+    list_pairs(Trips::over(trains, steps))?;
+    Ok(())
+}
+
 /// Checks a railway: the number of trains, each train, the number of steps, each step, the number of pairs. A timetable
 /// keeps the case of a railway that passes exactly where the railway can run by it.
 // Kept: trains and steps are handed in one by one, here and below, a public signature.
@@ -32,7 +41,7 @@ pub fn check_railway(trains: &[Train], steps: &[Step]) -> Result<(), RailwayFaul
     ensures told { railway_told result ≡ railway_fault trains.now steps.now }
     ensures law { RunsLaw trains.now steps.now }
 {
-    Railway::read(trains, steps)?;
+    check_parts(trains, steps)?;
     Ok(())
 }
 
@@ -52,10 +61,12 @@ pub struct Railway<'a> {
 }
 
 impl<'a> Railway<'a> {
-    /// The railway of these trains, whose steps stand in one list, train by train, where it passes its check.
+    /// The railway of these trains, whose steps stand in one list, train by train, where it passes its check. A timetable
+    /// keeps its case exactly where the railway can run by it.
     pub fn read(trains: &'a [Train], steps: &'a [Step]) -> Result<Railway<'a>, RailwayFault>
         ensures told { railway_told result ≡ railway_fault trains.now steps.now }
         ensures read { IfOk result (λ r. (r.trains.now ≡ trains.now) × (r.steps.now ≡ steps.now)) }
+        ensures law { RunsLaw trains.now steps.now }
     {
         check_limits(trains, steps)?;
         let trips = Trips::over(trains, steps);

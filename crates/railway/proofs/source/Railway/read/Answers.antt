@@ -1,6 +1,7 @@
 use Rattle.std.proofs.Common.{◌≡◌, ◌+◌, length, ap, ◌∙◌, arith}
 use Rattle.trains.specs.Railway.{last_event, all_arcs, all_pairs}
 use Rattle.trains.proofs.Railways.{length_trips}
+use Rattle.trains.proofs.Runnings.{runs_law}
 use Rattle.railway.proofs.source.Railway.read.Goals as goal
 use Rattle.railway.proofs.Cases.{few_steps, read_case}
 use Rattle.railway.proofs.Checking.{none_breaks}
@@ -26,3 +27,6 @@ invariant_of-result c =
     let case_is = read_case ts c.args.steps.now c.in_ok-pairs.pairs c.in_ok-check_limits.ensures.told pairs_are in
     let end_is : 1 + length ts + length c.args.steps.now ≡ last_event 1 ts = omega (arith, last_event_is 1 ts, s.long) in
     rw case_is (record { last = end_is; fixed_listed = c.list_fixed.ensures ∙ (λ j. all_arcs (end_is j) (trips_are j)); pairs_listed = pairs_are })
+
+pub returns-clause-law : goal.returns-clause-law
+returns-clause-law c = runs_law c.args.trains.now c.args.steps.now
