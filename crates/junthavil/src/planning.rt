@@ -1,4 +1,6 @@
 //! A planner that is open over a case, and what its commands answer.
+ghost use Rattle.std.specs.Prelude.{◌≤◌, IfOk, vec_len};
+
 use super::command::Asked;
 use super::faults::Fault;
 use super::lines::{OrNone, Row};
@@ -22,6 +24,16 @@ const SLICE: u64 = 25_000;
 /// A place for each event of a case, with times that no search has written: a search leaves none below zero.
 fn blank_times<V: TimeMeasure>(heap: Global, source: &Message) -> Result<Vec<V>, AllocError> {
     vec![in heap; V::of_arc(-1, 0); source.end().saturating_add(1)]
+}
+
+/// Makes sure that there are so many times.
+fn extend<V: TimeMeasure>(times: &mut Vec<V>, places: usize) -> Result<(), AllocError>
+    ensures { IfOk result (λ _. places ≤ vec_len times.new) }
+{
+    if times.len() < places {
+        times.resize(places, V::zero())?;
+    }
+    Ok(())
 }
 
 /// Whether a search is finished, in words.
@@ -95,11 +107,13 @@ impl Planning for NoPlanner {
     }
 }
 
-/// A planner that is open over the case in a message, with a place for the time of each event.
+/// A planner that is open over the case in a message, with a place for the time of each event, and behind these those
+/// that a search was handed besides.
 #[derive(Drop)]
 pub(crate) struct Desk<'a, V> {
     planner: Planner<Message<'a>, V, NamedBound>,
     times: Vec<V>,
+    events: usize,
 }
 
 impl<'a, V: TimeMeasure + Display> Desk<'a, V> {
@@ -121,22 +135,26 @@ impl<'a, V: TimeMeasure + Display> Desk<'a, V> {
     ) -> Result<Desk<'a, V>, AllocError> {
         let source = Message::over(message);
         let mut times = blank_times(heap, &source)?;
+        let events = times.len();
         let planner = replay(source, bound, calls, times.as_mut_slice());
-        Ok(Desk { planner, times })
+        Ok(Desk {
+            planner,
+            times,
+            events,
+        })
     }
 
-    /// Searches with so many places for times, or one for each event where that is not said. More places than events
-    /// change nothing.
+    /// Searches with so many places for times, or one for each event where that is not said.
     fn search(
         &mut self,
         rt: &HostRuntime,
         budget: u64,
         places: Option<u16>,
-    ) -> Result<Searched, PlannerFault> {
-        let times = self.times.as_mut_slice();
-        let events = times.len();
-        let places = places.map_or(events, usize::from).min(events);
-        search_slices(rt, &mut self.planner, budget, &mut times[..places])
+    ) -> Result<Searched, Fault> {
+        let places = places.map_or(self.events, usize::from);
+        extend(&mut self.times, places)?;
+        let times = &mut self.times.as_mut_slice()[..places];
+        Ok(search_slices(rt, &mut self.planner, budget, times)?)
     }
 
     // Kept: beside `make` of runs, since each call has words of its own, and a search goes in slices.
@@ -192,7 +210,7 @@ impl<V: TimeMeasure + Display> Display for Desk<'_, V> {
         let holds = Row(Some(planner.holds()));
         writeln!(f, "lower {lower}\ncount {count}\nholds{holds}")?;
         if self.is_written() {
-            let times = Row(Some(self.times.as_slice()));
+            let times = Row(self.times.as_slice().get(..self.events));
             writeln!(f, "times{times}")?;
         }
         Ok(())
