@@ -63,6 +63,7 @@ pub fn read_hex(heap: Global, text: &str) -> Result<Vec<u8>, HexFault>
         return Err(HexFault::Odd);
     }
     let mut bytes = Vec::new(heap);
+    // Kept: over chunks of two, a fault would have to count its index back from their number.
     for at in 0..digits.len() / 2 {
         let high = value_at(digits, 2 * at)?;
         let low = value_at(digits, 2 * at + 1)?;

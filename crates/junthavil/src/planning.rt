@@ -1,5 +1,5 @@
 //! A planner that is open over a case, and what its commands answer.
-ghost use Rattle.std.specs.Prelude.{◌≤◌, IfOk, vec_len};
+ghost use Rattle.std.specs.Prelude.{◌≡◌, ◌≤◌, IfOk, MatchOption, vec_len};
 
 use super::command::Asked;
 use super::faults::Fault;
@@ -24,6 +24,13 @@ const SLICE: u64 = 25_000;
 /// A place for each event of a case, with times that no search has written: a search leaves none below zero.
 fn blank_times<V: TimeMeasure>(heap: Global, source: &Message) -> Result<Vec<V>, AllocError> {
     vec![in heap; V::of_arc(-1, 0); source.end().saturating_add(1)]
+}
+
+/// How many places a search is handed: as many as is said, else one for each event.
+fn places_of(said: Option<u16>, events: usize) -> usize
+    ensures { MatchOption said (result ≡ events) (λ places. result ≡ places) }
+{
+    said.map_or(events, usize::from)
 }
 
 /// Makes sure that there are so many times.
@@ -151,7 +158,7 @@ impl<'a, V: TimeMeasure + Display> Desk<'a, V> {
         budget: u64,
         places: Option<u16>,
     ) -> Result<Searched, Fault> {
-        let places = places.map_or(self.events, usize::from);
+        let places = places_of(places, self.events);
         extend(&mut self.times, places)?;
         let times = &mut self.times.as_mut_slice()[..places];
         Ok(search_slices(rt, &mut self.planner, budget, times)?)
